@@ -1,0 +1,9 @@
+//! Networks of race logic: what they are, and their printing.
+#![tactic(auto)]
+
+mod ast;
+mod print;
+
+pub use ast::{Binding, Expr, Network};
+pub use print::print_network;
+pub use rl_text::Name;
