@@ -1,0 +1,7 @@
+pub mod Circuit
+pub mod Code
+pub mod View
+pub mod Names
+pub mod Valid
+pub mod Meaning
+pub mod Text

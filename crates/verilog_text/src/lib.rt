@@ -1,0 +1,11 @@
+//! Modules of a small part of Verilog: what they do, when they are valid, and their text.
+#![tactic(auto)]
+
+mod bit;
+pub mod laws;
+mod module;
+mod print;
+
+pub use bit::{Bit, Target};
+pub use module::{Assign, Module, Reg};
+pub use print::print_module;
