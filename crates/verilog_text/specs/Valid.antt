@@ -34,7 +34,16 @@ IsInRange m (Not x) = IsInRange m x
 IsInRange m (And x y) = IsInRange m x × IsInRange m y
 IsInRange m (Or x y) = IsInRange m x × IsInRange m y
 
--- A valid module: so many ports, wires and register bits, names that keep the rules, and assigns in order.
+-- Every name keeps its rules, and no name is declared twice.
+pub record HasValidNames (m : Circuit) : Type 0 where
+  pub inputs : All (λ name. IsTrue (is_port_name name)) m.inputs
+  pub outputs : All (λ name. IsTrue (is_port_name name)) m.outputs
+  pub wires : All (λ name. IsTrue (is_own_name name)) m.wires
+  pub regs : All (λ r. IsTrue (is_own_name r.name)) m.regs
+  pub distinct : AllPairs (λ a b. a ≢ b) (declared_names m)
+
+-- A valid module: 1 to 64 inputs and outputs, at most 65,536 wires and register bits, registers of one bit or more,
+-- valid names, expressions that name what the module has, and assigns in order.
 pub record IsValid (m : Circuit) : Type 0 where
   pub some_input : 1 ≤ length m.inputs
   pub few_inputs : length m.inputs ≤ 64
@@ -43,11 +52,7 @@ pub record IsValid (m : Circuit) : Type 0 where
   pub few_wires : length m.wires ≤ 65536
   pub few_bits : register_bits m ≤ 65536
   pub widths : All (λ r. 1 ≤ r.width) m.regs
-  pub input_names : All (λ name. IsTrue (is_port_name name)) m.inputs
-  pub output_names : All (λ name. IsTrue (is_port_name name)) m.outputs
-  pub wire_names : All (λ name. IsTrue (is_own_name name)) m.wires
-  pub register_names : All (λ r. IsTrue (is_own_name r.name)) m.regs
-  pub distinct : AllPairs (λ a b. a ≢ b) (declared_names m)
+  pub names : HasValidNames m
   pub assigned_in_range : All (λ a. IsInRange m a.bit) m.assigns
   pub next_in_range : All (λ r. IsInRange m r.next) m.regs
   pub ordered : IsOrdered m
