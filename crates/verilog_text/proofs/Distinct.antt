@@ -1,13 +1,12 @@
 -- Lists of names in which no name stands twice.
-use Rattle.std.proofs.Common.{◌≡◌, ◌≢◌, ℕ, zero, suc, ◌<◌, ◌≤◌, List, [], ◌∷◌, ◌++◌, length, map, get_or, refl, ap, ◌∙◌, sym, arith, true, false, Bool, All, IsTrue, codes, not, ◌&&◌, append_assoc, subst}
+use Rattle.std.proofs.Common.{◌≡◌, ◌≢◌, ℕ, zero, suc, List, [], ◌∷◌, ◌++◌, map, get_or, refl, ap, ◌∙◌, sym, arith, true, false, All, IsTrue, codes, append_assoc, subst}
 use Rattle.std.specs.Prelude.{AllPairs}
 use Rattle.std.proofs.lemmas.List.{get_or-map, length-map, append_cancel_left}
 use Rattle.std.proofs.lemmas.List.Kept.{AllPairs-cons}
 use Rattle.std.proofs.lemmas.List.Elements.{All-append, All-map, All-cons}
 use Rattle.std.proofs.lemmas.Bool.{and_parts, not-true, both_ways}
-use Rattle.verilog_text.specs.Circuit.{Circuit, Register}
-use Rattle.verilog_text.specs.Names.{in_name, out_name, is_word, is_own_name, is_reserved, declared_names}
-use Rattle.verilog_text.specs.Valid.{HasValidNames}
+use Rattle.verilog_text.specs.Circuit.{Circuit}
+use Rattle.verilog_text.specs.Names.{in_name, out_name, is_own_name, is_reserved, declared_names}
 
 -- R holds of each element of the first list and each of the second
 abbrev pub AllAcross : {X : Type 0} → (X → X → Type 0) → List X → List X → Type 0
@@ -26,8 +25,8 @@ pub all_pairs-append : {X : Type 0} (R : X → X → Type 0) (xs ys : List X) �
 all_pairs-append R [] ys p q across = q
 all_pairs-append R (x ∷ xs) ys p q across =
     AllPairs-cons R x (xs ++ ys)
-        (All-append (R x) xs ys (λ k d lt. p zero (suc k) d (omega arith) (omega arith)) (all-head (λ z. All (R z) ys) x xs across))
-        (all_pairs-append R xs ys (all_pairs-tail R x xs p) q (all-tail (λ z. All (R z) ys) x xs across))
+    (All-append (R x) xs ys (λ k d lt. p zero (suc k) d (omega arith) (omega arith)) (all-head (λ z. All (R z) ys) x xs across))
+    (all_pairs-append R xs ys (all_pairs-tail R x xs p) q (all-tail (λ z. All (R z) ys) x xs across))
 
 -- distinct names stay distinct under a function that is one to one
 pub all_pairs-map : (f : List ℕ → List ℕ) → ((a b : List ℕ) → f a ≡ f b → a ≡ b) → (xs : List (List ℕ)) → AllPairs (λ a b. a ≢ b) xs → AllPairs (λ a b. a ≢ b) (map f xs)
@@ -78,10 +77,10 @@ module _ (m : Circuit) where
   reserved_word_apart : (word : List ℕ) → is_reserved word ≡ true → get_or word 0 0 ≢ 105 → get_or word 0 0 ≢ 111 → All (λ name. IsTrue (is_own_name name)) own_names → All (λ name. word ≢ name) (ports ++ own_names)
   reserved_word_apart word r not_in not_out h =
       All-append (λ name. word ≢ name) ports own_names
-          (All-append (λ name. word ≢ name) (map in_name m.inputs) (map out_name m.outputs)
-          (first_apart _ 105 word _ not_in refl (inputs_begin m.inputs))
-          (first_apart _ 111 word _ not_out refl (outputs_begin m.outputs)))
-          (reserved_apart word own_names r h)
+      (All-append (λ name. word ≢ name) (map in_name m.inputs) (map out_name m.outputs)
+      (first_apart _ 105 word _ not_in refl (inputs_begin m.inputs))
+      (first_apart _ 111 word _ not_out refl (outputs_begin m.outputs)))
+      (reserved_apart word own_names r h)
 
   words_before : (a b : List ℕ) (names : List (List ℕ)) → a ≢ b → All (λ name. a ≢ name) names → All (λ name. b ≢ name) names → AllPairs (λ x y. x ≢ y) names → AllPairs (λ x y. x ≢ y) (a ∷ b ∷ names)
   words_before a b names ne ha hb h =
@@ -90,16 +89,16 @@ module _ (m : Circuit) where
   ports_distinct : AllPairs (λ a b. a ≢ b) m.inputs → AllPairs (λ a b. a ≢ b) m.outputs → AllPairs (λ a b. a ≢ b) ports
   ports_distinct hi ho =
       all_pairs-append (λ a b. a ≢ b) (map in_name m.inputs) (map out_name m.outputs) (distinct_inputs m.inputs hi) (distinct_outputs m.outputs ho)
-          (across_from_first 105 111 _ _ (λ e. absurd (omega (arith, e))) (inputs_begin m.inputs) (outputs_begin m.outputs))
+      (across_from_first 105 111 _ _ (λ e. absurd (omega (arith, e))) (inputs_begin m.inputs) (outputs_begin m.outputs))
 
   pub declared_names_distinct : AllPairs (λ a b. a ≢ b) m.inputs → AllPairs (λ a b. a ≢ b) m.outputs → AllPairs (λ a b. a ≢ b) own_names →
       All (λ name. IsTrue (is_own_name name)) own_names → AllAcross (λ a b. a ≢ b) (map in_name m.inputs) own_names → AllAcross (λ a b. a ≢ b) (map out_name m.outputs) own_names →
       AllPairs (λ a b. a ≢ b) (declared_names m)
   declared_names_distinct hi ho hw valid ai ao =
       let all : AllPairs (λ a b. a ≢ b) (ports ++ own_names) =
-          all_pairs-append (λ a b. a ≢ b) ports own_names (ports_distinct hi ho) hw (All-append (λ x. All (λ y. x ≢ y) own_names) (map in_name m.inputs) (map out_name m.outputs) ai ao) in
+      all_pairs-append (λ a b. a ≢ b) ports own_names (ports_distinct hi ho) hw (All-append (λ x. All (λ y. x ≢ y) own_names) (map in_name m.inputs) (map out_name m.outputs) ai ao) in
       let same : declared_names m ≡ codes "clk" ∷ codes "rst" ∷ (ports ++ own_names) = ap (λ z. codes "clk" ∷ codes "rst" ∷ z) (append_assoc ports m.wires (map (λ r. r.name) m.regs)) in
       subst (λ z. AllPairs (λ a b. a ≢ b) z) (sym same)
-          (words_before (codes "clk") (codes "rst") (ports ++ own_names) (λ e. let first : 99 ≡ 114 = ap (λ z. get_or z 0 0) e in absurd (omega (arith, first)))
-          (reserved_word_apart (codes "clk") refl (λ e. absurd (omega (arith, e))) (λ e. absurd (omega (arith, e))) valid)
-          (reserved_word_apart (codes "rst") refl (λ e. absurd (omega (arith, e))) (λ e. absurd (omega (arith, e))) valid) all)
+      (words_before (codes "clk") (codes "rst") (ports ++ own_names) (λ e. let first : 99 ≡ 114 = ap (λ z. get_or z 0 0) e in absurd (omega (arith, first)))
+      (reserved_word_apart (codes "clk") refl (λ e. absurd (omega (arith, e))) (λ e. absurd (omega (arith, e))) valid)
+      (reserved_word_apart (codes "rst") refl (λ e. absurd (omega (arith, e))) (λ e. absurd (omega (arith, e))) valid) all)

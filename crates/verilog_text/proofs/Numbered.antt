@@ -1,6 +1,6 @@
 -- Names made of a prefix and a number: what they are, that they are valid, and that no two are the same.
-use Rattle.std.proofs.Common.{◌≡◌, ◌≢◌, ℕ, zero, suc, ◌+◌, ◌-◌, ◌<◌, ◌≤◌, ◌^◌, ◌%◌, List, [], ◌∷◌, ◌++◌, length, map, get_or, refl, ap, ◌∙◌, sym, inl, inr, arith, true, false, Bool, All, IsTrue, codes, decimal, not, ◌&&◌, ◌||◌, length-append, subst, leb}
-use Rattle.std.specs.Prelude.{AllPairs, slice_get, Some, EachIndex, ◌==◌, bytes_eq, nat_le}
+use Rattle.std.proofs.Common.{◌≡◌, ◌≢◌, ℕ, zero, suc, ◌+◌, ◌-◌, ◌<◌, ◌≤◌, ◌^◌, ◌%◌, List, [], ◌∷◌, ◌++◌, length, map, get_or, refl, ap, ◌∙◌, sym, inl, inr, arith, true, false, Bool, All, IsTrue, codes, decimal, not, ◌||◌, length-append, subst}
+use Rattle.std.specs.Prelude.{AllPairs, slice_get, Some, ◌==◌, bytes_eq, nat_le}
 use Rattle.std.specs.List.{list_all, list_any}
 use Rattle.std.specs.Char.{is_ascii_alphabetic, is_ascii_digit}
 use Rattle.std.proofs.lemmas.List.{get_or_append_left, append_cancel_left, get_or-append_right, get_or-map, length-map}
@@ -10,7 +10,7 @@ use Rattle.std.proofs.lemmas.Bool.{cases_lt, le-leb, ne_eqb, and_parts, and_from
 use Rattle.std.proofs.lemmas.List.Folds.{list_all-append}
 use Rattle.std.proofs.lemmas.Bool.Decides.{nat_tests}
 use Rattle.std.proofs.lemmas.Fmt.{decimal_injective, decimal_by_steps, length-decimal-le}
-use Rattle.verilog_text.specs.Names.{numbered, numbered_name, is_own_name, is_word, is_port_byte, is_reserved, reserved_words, is_port_name, in_name, out_name}
+use Rattle.verilog_text.specs.Names.{numbered, numbered_name, is_own_name, is_port_byte, is_reserved, reserved_words, is_port_name, in_name, out_name}
 use Rattle.verilog_text.specs.Circuit.{Circuit}
 use Rattle.verilog_text.specs.Valid.{HasValidNames}
 use Rattle.verilog_text.proofs.Distinct.{AllAcross, AllBegin, all_pairs-append, across_from_first, inputs_begin, outputs_begin, own_names, declared_names_distinct}
@@ -45,7 +45,7 @@ pub numbered_distinct : (prefix : List ℕ) (n : ℕ) → n ≤ 2 ^ 64 → AllPa
 numbered_distinct prefix n le = λ i j d lt lj same.
     let len = length-numbered prefix n in
     let e : i ≡ j = numbered_name-one prefix i j (omega (arith, len)) (omega (arith, len))
-        (sym (get_or-numbered prefix n i d (omega (arith, len))) ∙ (same ∙ get_or-numbered prefix n j d (omega (arith, len)))) in
+    (sym (get_or-numbered prefix n i d (omega (arith, len))) ∙ (same ∙ get_or-numbered prefix n j d (omega (arith, len)))) in
     absurd (omega arith)
 
 -- what holds of the name of each number below n
@@ -126,12 +126,12 @@ numbered_names m w r lw lr ew er pi po di do' =
     let valid_w = own_numbered 119 w refl (omega arith) in
     let valid_r = own_numbered 114 r refl (omega arith) in
     let distinct : AllPairs (λ a b. a ≢ b) (ws ++ rs) =
-        all_pairs-append (λ a b. a ≢ b) ws rs (numbered_distinct (codes "w") w (omega arith)) (numbered_distinct (codes "r") r (omega arith))
-            (across_from_first 119 114 ws rs (λ e. absurd (omega (arith, e))) (numbered_begin 119 w) (numbered_begin 114 r)) in
+    all_pairs-append (λ a b. a ≢ b) ws rs (numbered_distinct (codes "w") w (omega arith)) (numbered_distinct (codes "r") r (omega arith))
+    (across_from_first 119 114 ws rs (λ e. absurd (omega (arith, e))) (numbered_begin 119 w) (numbered_begin 114 r)) in
     let across : (b : ℕ) (ports : List (List ℕ)) → b < 114 → AllBegin b ports → AllAcross (λ x y. x ≢ y) ports (ws ++ rs) = λ b ports lb h k d lt.
-        All-append (λ y. get_or ports k d ≢ y) ws rs
-            (across_from_first b 119 ports ws (λ e. absurd (omega arith)) h (numbered_begin 119 w) k d lt)
-            (across_from_first b 114 ports rs (λ e. absurd (omega arith)) h (numbered_begin 114 r) k d lt) in
+    All-append (λ y. get_or ports k d ≢ y) ws rs
+    (across_from_first b 119 ports ws (λ e. absurd (omega arith)) h (numbered_begin 119 w) k d lt)
+    (across_from_first b 114 ports rs (λ e. absurd (omega arith)) h (numbered_begin 114 r) k d lt) in
     record {
       inputs = pi;
       outputs = po;

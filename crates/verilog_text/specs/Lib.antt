@@ -5,3 +5,4 @@ pub mod Names
 pub mod Valid
 pub mod Meaning
 pub mod Text
+pub mod Repeats
