@@ -9,3 +9,6 @@ mod print;
 pub use bit::{Bit, Target};
 pub use module::{Assign, Module, Reg};
 pub use print::print_module;
+
+#[cfg(test)]
+mod tests;
