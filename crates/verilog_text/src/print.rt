@@ -57,57 +57,57 @@ fn put_register_bit(text: &mut Vec<u8>, regs: &[Reg], place: u32, bit: u32) -> R
 }
 
 #[cycle(bits)]
-fn put_bit(text: &mut Vec<u8>, module: &Module, bit: &Bit) -> Result<(), NoMemory>
-    ensures { OnOk result (text.new.items ≡ text.old.items ++ spec.logic_text module.now (logic bit.now)) }
+fn put_bit(text: &mut Vec<u8>, m: &Module, bit: &Bit) -> Result<(), NoMemory>
+    ensures { OnOk result (text.new.items ≡ text.old.items ++ spec.logic_text m.now (logic bit.now)) }
 {
     match bit {
         Bit::Zero => put(text, b"1'b0"),
         Bit::One => put(text, b"1'b1"),
         Bit::Input(i) => {
             put(text, b"in_")?;
-            put_name(text, module.inputs(), *i)
+            put_name(text, m.inputs(), *i)
         }
-        Bit::Wire(w) => put_name(text, module.wires(), *w),
-        Bit::Reg(r, k) => put_register_bit(text, module.regs(), *r, *k),
+        Bit::Wire(w) => put_name(text, m.wires(), *w),
+        Bit::Reg(r, k) => put_register_bit(text, m.regs(), *r, *k),
         Bit::Not(x) => {
             put(text, b"~")?;
-            put_operand(text, module, x)
+            put_operand(text, m, x)
         }
         Bit::And(x, y) => {
-            put_operand(text, module, x)?;
+            put_operand(text, m, x)?;
             put(text, b" & ")?;
-            put_operand(text, module, y)
+            put_operand(text, m, y)
         }
         Bit::Or(x, y) => {
-            put_operand(text, module, x)?;
+            put_operand(text, m, x)?;
             put(text, b" | ")?;
-            put_operand(text, module, y)
+            put_operand(text, m, y)
         }
     }
 }
 
 #[cycle(bits)]
-fn put_operand(text: &mut Vec<u8>, module: &Module, bit: &Bit) -> Result<(), NoMemory>
-    ensures { OnOk result (text.new.items ≡ text.old.items ++ spec.in_parentheses (spec.is_compound (logic bit.now)) (spec.logic_text module.now (logic bit.now))) }
+fn put_operand(text: &mut Vec<u8>, m: &Module, bit: &Bit) -> Result<(), NoMemory>
+    ensures { OnOk result (text.new.items ≡ text.old.items ++ spec.in_parentheses (spec.is_compound (logic bit.now)) (spec.logic_text m.now (logic bit.now))) }
 {
     match bit {
         Bit::And(_, _) | Bit::Or(_, _) => {
             put(text, b"(")?;
-            put_bit(text, module, bit)?;
+            put_bit(text, m, bit)?;
             put(text, b")")
         }
-        _ => put_bit(text, module, bit),
+        _ => put_bit(text, m, bit),
     }
 }
 
-fn put_target(text: &mut Vec<u8>, module: &Module, target: Target) -> Result<(), NoMemory>
-    ensures { OnOk result (text.new.items ≡ text.old.items ++ spec.target_text module.now target) }
+fn put_target(text: &mut Vec<u8>, m: &Module, target: Target) -> Result<(), NoMemory>
+    ensures { OnOk result (text.new.items ≡ text.old.items ++ spec.target_text m.now target) }
 {
     match target {
-        Target::Wire(w) => put_name(text, module.wires(), w),
+        Target::Wire(w) => put_name(text, m.wires(), w),
         Target::Out(o) => {
             put(text, b"out_")?;
-            put_name(text, module.outputs(), o)
+            put_name(text, m.outputs(), o)
         }
     }
 }
@@ -132,25 +132,25 @@ fn put_header_start(text: &mut Vec<u8>) -> Result<(), NoMemory>
 }
 
 #[tactic(auto, unfolding(crate::specs::Text::input_ports))]
-fn put_input_ports(text: &mut Vec<u8>, module: &Module) -> Result<(), NoMemory>
-    ensures { OnOk result (text.new.items ≡ text.old.items ++ spec.input_ports module.now) }
+fn put_input_ports(text: &mut Vec<u8>, m: &Module) -> Result<(), NoMemory>
+    ensures { OnOk result (text.new.items ≡ text.old.items ++ spec.input_ports m.now) }
 {
-    put_each(text, b", in_", module.inputs(), b"")
+    put_each(text, b", in_", m.inputs(), b"")
 }
 
 #[tactic(auto, unfolding(crate::specs::Text::output_ports))]
-fn put_output_ports(text: &mut Vec<u8>, module: &Module) -> Result<(), NoMemory>
-    ensures { OnOk result (text.new.items ≡ text.old.items ++ spec.output_ports module.now) }
+fn put_output_ports(text: &mut Vec<u8>, m: &Module) -> Result<(), NoMemory>
+    ensures { OnOk result (text.new.items ≡ text.old.items ++ spec.output_ports m.now) }
 {
-    put_each(text, b", out_", module.outputs(), b"")
+    put_each(text, b", out_", m.outputs(), b"")
 }
 
-fn put_header(text: &mut Vec<u8>, module: &Module) -> Result<(), NoMemory>
-    ensures { OnOk result (text.new.items ≡ text.old.items ++ spec.header_text module.now) }
+fn put_header(text: &mut Vec<u8>, m: &Module) -> Result<(), NoMemory>
+    ensures { OnOk result (text.new.items ≡ text.old.items ++ spec.header_text m.now) }
 {
     put_header_start(text)?;
-    put_input_ports(text, module)?;
-    put_output_ports(text, module)?;
+    put_input_ports(text, m)?;
+    put_output_ports(text, m)?;
     put(text, b");\n")
 }
 
@@ -162,24 +162,24 @@ fn put_clock_lines(text: &mut Vec<u8>) -> Result<(), NoMemory>
 }
 
 #[tactic(auto, unfolding(crate::specs::Text::input_lines))]
-fn put_input_lines(text: &mut Vec<u8>, module: &Module) -> Result<(), NoMemory>
-    ensures { OnOk result (text.new.items ≡ text.old.items ++ spec.input_lines module.now) }
+fn put_input_lines(text: &mut Vec<u8>, m: &Module) -> Result<(), NoMemory>
+    ensures { OnOk result (text.new.items ≡ text.old.items ++ spec.input_lines m.now) }
 {
-    put_each(text, b"  input in_", module.inputs(), b";\n")
+    put_each(text, b"  input in_", m.inputs(), b";\n")
 }
 
 #[tactic(auto, unfolding(crate::specs::Text::output_lines))]
-fn put_output_lines(text: &mut Vec<u8>, module: &Module) -> Result<(), NoMemory>
-    ensures { OnOk result (text.new.items ≡ text.old.items ++ spec.output_lines module.now) }
+fn put_output_lines(text: &mut Vec<u8>, m: &Module) -> Result<(), NoMemory>
+    ensures { OnOk result (text.new.items ≡ text.old.items ++ spec.output_lines m.now) }
 {
-    put_each(text, b"  output out_", module.outputs(), b";\n")
+    put_each(text, b"  output out_", m.outputs(), b";\n")
 }
 
 #[tactic(auto, unfolding(crate::specs::Text::wire_lines))]
-fn put_wire_lines(text: &mut Vec<u8>, module: &Module) -> Result<(), NoMemory>
-    ensures { OnOk result (text.new.items ≡ text.old.items ++ spec.wire_lines module.now) }
+fn put_wire_lines(text: &mut Vec<u8>, m: &Module) -> Result<(), NoMemory>
+    ensures { OnOk result (text.new.items ≡ text.old.items ++ spec.wire_lines m.now) }
 {
-    put_each(text, b"  wire ", module.wires(), b";\n")
+    put_each(text, b"  wire ", m.wires(), b";\n")
 }
 
 fn put_register_line(text: &mut Vec<u8>, reg: &Reg) -> Result<(), NoMemory>
@@ -205,47 +205,47 @@ fn put_register_lines(text: &mut Vec<u8>, regs: &[Reg]) -> Result<(), NoMemory>
     Ok(())
 }
 
-fn put_declarations(text: &mut Vec<u8>, module: &Module) -> Result<(), NoMemory>
-    ensures { OnOk result (text.new.items ≡ text.old.items ++ spec.declarations_text module.now) }
+fn put_declarations(text: &mut Vec<u8>, m: &Module) -> Result<(), NoMemory>
+    ensures { OnOk result (text.new.items ≡ text.old.items ++ spec.declarations_text m.now) }
 {
     put_clock_lines(text)?;
-    put_input_lines(text, module)?;
-    put_output_lines(text, module)?;
-    put_wire_lines(text, module)?;
-    put_register_lines(text, module.regs())
+    put_input_lines(text, m)?;
+    put_output_lines(text, m)?;
+    put_wire_lines(text, m)?;
+    put_register_lines(text, m.regs())
 }
 
-fn put_assign(text: &mut Vec<u8>, module: &Module, assign: &Assign) -> Result<(), NoMemory>
-    ensures { OnOk result (text.new.items ≡ text.old.items ++ spec.assign_line module.now assign.now) }
+fn put_assign(text: &mut Vec<u8>, m: &Module, assign: &Assign) -> Result<(), NoMemory>
+    ensures { OnOk result (text.new.items ≡ text.old.items ++ spec.assign_line m.now assign.now) }
 {
     put(text, b"  assign ")?;
-    put_target(text, module, assign.target())?;
+    put_target(text, m, assign.target())?;
     put(text, b" = ")?;
-    put_bit(text, module, assign.bit())?;
+    put_bit(text, m, assign.bit())?;
     put(text, b";\n")
 }
 
-fn put_assigns(text: &mut Vec<u8>, module: &Module) -> Result<(), NoMemory>
-    ensures { OnOk result (text.new.items ≡ text.old.items ++ flat_map (spec.assign_line module.now) module.now.assigns) }
+fn put_assigns(text: &mut Vec<u8>, m: &Module) -> Result<(), NoMemory>
+    ensures { OnOk result (text.new.items ≡ text.old.items ++ flat_map (spec.assign_line m.now) m.now.assigns) }
 {
-    for assign in module.assigns() {
-        put_assign(text, module, assign)?;
+    for assign in m.assigns() {
+        put_assign(text, m, assign)?;
     }
     Ok(())
 }
 
-fn put_next(text: &mut Vec<u8>, module: &Module, reg: &Reg) -> Result<(), NoMemory>
-    ensures { OnOk result (text.new.items ≡ text.old.items ++ spec.next_text module.now reg.now) }
+fn put_next(text: &mut Vec<u8>, m: &Module, reg: &Reg) -> Result<(), NoMemory>
+    ensures { OnOk result (text.new.items ≡ text.old.items ++ spec.next_text m.now reg.now) }
 {
     if reg.width() == 1 {
-        return put_bit(text, module, reg.next());
+        return put_bit(text, m, reg.next());
     }
     put(text, b"{")?;
     put(text, reg.name().bytes())?;
     put(text, b"[")?;
     put_number(text, reg.width().saturating_sub(2))?;
     put(text, b":0], ")?;
-    put_bit(text, module, reg.next())?;
+    put_bit(text, m, reg.next())?;
     put(text, b"}")
 }
 
@@ -266,46 +266,46 @@ fn put_reset(text: &mut Vec<u8>, reg: &Reg) -> Result<(), NoMemory>
     put(text, b"'b0; else ")
 }
 
-fn put_update(text: &mut Vec<u8>, module: &Module, reg: &Reg) -> Result<(), NoMemory>
-    ensures { OnOk result (text.new.items ≡ text.old.items ++ spec.update_text module.now reg.now) }
+fn put_update(text: &mut Vec<u8>, m: &Module, reg: &Reg) -> Result<(), NoMemory>
+    ensures { OnOk result (text.new.items ≡ text.old.items ++ spec.update_text m.now reg.now) }
 {
     put(text, reg.name().bytes())?;
     put(text, b" <= ")?;
-    put_next(text, module, reg)?;
+    put_next(text, m, reg)?;
     put(text, b";\n")
 }
 
-fn put_always(text: &mut Vec<u8>, module: &Module, reg: &Reg) -> Result<(), NoMemory>
-    ensures { OnOk result (text.new.items ≡ text.old.items ++ spec.always_line module.now reg.now) }
+fn put_always(text: &mut Vec<u8>, m: &Module, reg: &Reg) -> Result<(), NoMemory>
+    ensures { OnOk result (text.new.items ≡ text.old.items ++ spec.always_line m.now reg.now) }
 {
     put_reset(text, reg)?;
-    put_update(text, module, reg)
+    put_update(text, m, reg)
 }
 
-fn put_always_lines(text: &mut Vec<u8>, module: &Module) -> Result<(), NoMemory>
-    ensures { OnOk result (text.new.items ≡ text.old.items ++ flat_map (spec.always_line module.now) module.now.regs) }
+fn put_always_lines(text: &mut Vec<u8>, m: &Module) -> Result<(), NoMemory>
+    ensures { OnOk result (text.new.items ≡ text.old.items ++ flat_map (spec.always_line m.now) m.now.regs) }
 {
-    for reg in module.regs() {
-        put_always(text, module, reg)?;
+    for reg in m.regs() {
+        put_always(text, m, reg)?;
     }
     Ok(())
 }
 
-fn put_statements(text: &mut Vec<u8>, module: &Module) -> Result<(), NoMemory>
-    ensures { OnOk result (text.new.items ≡ text.old.items ++ spec.statements_text module.now) }
+fn put_statements(text: &mut Vec<u8>, m: &Module) -> Result<(), NoMemory>
+    ensures { OnOk result (text.new.items ≡ text.old.items ++ spec.statements_text m.now) }
 {
-    put_assigns(text, module)?;
-    put_always_lines(text, module)?;
+    put_assigns(text, m)?;
+    put_always_lines(text, m)?;
     put(text, b"endmodule\n")
 }
 
 /// The text of a module: its header, its declarations, its assigns in their order and its registers.
-pub fn print_module(alloc: Global, module: &Module) -> Result<Vec<u8>, NoMemory>
-    ensures { IfOk result (λ text. text.items ≡ spec.module_text module.now) }
+pub fn print_module(alloc: Global, m: &Module) -> Result<Vec<u8>, NoMemory>
+    ensures { IfOk result (λ text. text.items ≡ spec.module_text m.now) }
 {
     let mut text = Vec::new(alloc);
-    put_header(&mut text, module)?;
-    put_declarations(&mut text, module)?;
-    put_statements(&mut text, module)?;
+    put_header(&mut text, m)?;
+    put_declarations(&mut text, m)?;
+    put_statements(&mut text, m)?;
     Ok(text)
 }
