@@ -10,7 +10,7 @@ use Rattle.std.proofs.lemmas.Bool.{cases_lt, le-leb, ne_eqb, and_parts, and_from
 use Rattle.std.proofs.lemmas.List.Folds.{list_all-append}
 use Rattle.std.proofs.lemmas.Bool.Decides.{nat_tests}
 use Rattle.std.proofs.lemmas.Fmt.{decimal_injective, decimal_by_steps, length-decimal-le}
-use Rattle.verilog_text.specs.Names.{numbered, numbered_name, is_own_name, is_port_byte, is_reserved, reserved_words, is_port_name, in_name, out_name}
+use Rattle.verilog_text.specs.Names.{numbered, numbered_name, is_own_name, is_own_first, is_own_byte, is_reserved, reserved_words, is_port_name, in_name, out_name}
 use Rattle.verilog_text.specs.Circuit.{Circuit}
 use Rattle.verilog_text.specs.Valid.{HasValidNames}
 use Rattle.verilog_text.proofs.Distinct.{AllAcross, AllBegin, all_pairs-append, across_from_first, inputs_begin, outputs_begin, own_names, declared_names_distinct}
@@ -66,10 +66,10 @@ decimal_digits = decimal_by_steps IsDigits
     (λ n lt. (and_from _ _ (one_digit (48 + n) (omega arith) (omega arith)) refl, omega arith))
     (λ n ds le h. (list_all-append is_ascii_digit ds _ ∙ and_from _ _ h.0 (and_from _ _ (one_digit (48 + n % 10) (omega arith) (omega arith)) refl), omega (arith, length-append ds ((48 + n % 10) ∷ []))))
 
-digit_passes : (b : ℕ) → is_ascii_digit b ≡ true → (is_port_byte b || (b == 36)) ≡ true
+digit_passes : (b : ℕ) → is_ascii_digit b ≡ true → is_own_byte b ≡ true
 digit_passes b h = rw h refl
 
-digits_pass : (ds : List ℕ) → list_all is_ascii_digit ds ≡ true → list_all (λ b. is_port_byte b || (b == 36)) ds ≡ true
+digits_pass : (ds : List ℕ) → list_all is_ascii_digit ds ≡ true → list_all is_own_byte ds ≡ true
 digits_pass [] h = refl
 digits_pass (d ∷ ds) h = let p = and_parts _ _ h in and_from _ _ (digit_passes d p.0) (digits_pass ds p.1)
 
@@ -103,7 +103,7 @@ pub own_numbered_name : (c k : ℕ) → is_ascii_alphabetic c ≡ true → k < 2
 own_numbered_name c k letter low =
     let ds = decimal_digits k (omega arith) in
     let short : length (decimal k) ≤ 10 = length-decimal-le 10 k (omega arith) (omega arith) (omega arith) in
-    let first : (is_ascii_alphabetic c || (c == 95)) ≡ true = rw letter refl in
+    let first : is_own_first c ≡ true = rw letter refl in
     let word = and_from _ _ first (digits_pass (decimal k) ds.0) in
     let len : nat_le (length (c ∷ decimal k)) 40 ≡ true = le-leb _ _ (omega arith) in
     and_from _ _ (and_from _ _ word len) (ap not (not_reserved c (decimal k) ds.0 ds.1))

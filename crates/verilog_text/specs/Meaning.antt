@@ -128,8 +128,10 @@ pub record HasLevels (m : Circuit) (s : State) : Type 0 where
 
 -- any activations in which the assigns occur in their order lead to a settled state
 abbrev pub SettlesInOrder : Circuit → Type 0
-SettlesInOrder m = (s : State) (ks : List ℕ) → HasLevels m s → InOrder (upto 0 (length m.assigns)) ks → IsSettled m (activate_all m s ks)
+SettlesInOrder m = (s : State) (ks : List ℕ) → HasLevels m s → InOrder (upto 0 (length m.assigns)) ks →
+    IsSettled m (activate_all m s ks)
 
 -- settled states with the same inputs and registers are the same
 abbrev pub HasOneSettled : Circuit → Type 0
-HasOneSettled m = (s s' : State) → IsSettled m s → IsSettled m s' → s.inputs ≡ s'.inputs → s.regs ≡ s'.regs → s ≡ s'
+HasOneSettled m = (s s' : State) → IsSettled m s → IsSettled m s' →
+    s.inputs ≡ s'.inputs → s.regs ≡ s'.regs → s ≡ s'

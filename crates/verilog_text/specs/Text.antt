@@ -37,8 +37,14 @@ logic_text m (Input i) = in_name (name_text (slice_get m.inputs i))
 logic_text m (Wire w) = name_text (slice_get m.wires w)
 logic_text m (Reg r k) = register_bit_text (slice_get m.regs r) k
 logic_text m (Not x) = codes "~" ++ in_parentheses (is_compound x) (logic_text m x)
-logic_text m (And x y) = in_parentheses (is_compound x) (logic_text m x) ++ codes " & " ++ in_parentheses (is_compound y) (logic_text m y)
-logic_text m (Or x y) = in_parentheses (is_compound x) (logic_text m x) ++ codes " | " ++ in_parentheses (is_compound y) (logic_text m y)
+logic_text m (And x y) =
+    in_parentheses (is_compound x) (logic_text m x) ++ codes " & " ++ in_parentheses (is_compound y) (logic_text m y)
+logic_text m (Or x y) =
+    in_parentheses (is_compound x) (logic_text m x) ++ codes " | " ++ in_parentheses (is_compound y) (logic_text m y)
+
+-- an expression where it is an operand
+abbrev pub operand_text : Circuit → Logic → List ℕ
+operand_text m x = in_parentheses (is_compound x) (logic_text m x)
 
 abbrev pub target_text : Circuit → Target → List ℕ
 target_text m (target.Wire w) = name_text (slice_get m.wires w)
@@ -81,7 +87,8 @@ register_line r =
     else codes "  reg [" ++ decimal (r.width - 1) ++ codes ":0] " ++ r.name ++ codes ";\n"
 
 abbrev pub declarations_text : Circuit → List ℕ
-declarations_text m = clock_lines ++ input_lines m ++ output_lines m ++ wire_lines m ++ flat_map register_line m.regs
+declarations_text m =
+    clock_lines ++ input_lines m ++ output_lines m ++ wire_lines m ++ flat_map register_line m.regs
 
 -- `assign target = expression;`
 abbrev pub assign_line : Circuit → Assignment → List ℕ
@@ -108,7 +115,8 @@ always_line m r = reset_text r ++ update_text m r
 
 -- the assigns in their order, the always statements in the order of the registers, and the end
 abbrev pub statements_text : Circuit → List ℕ
-statements_text m = flat_map (assign_line m) m.assigns ++ flat_map (always_line m) m.regs ++ codes "endmodule\n"
+statements_text m =
+    flat_map (assign_line m) m.assigns ++ flat_map (always_line m) m.regs ++ codes "endmodule\n"
 
 -- the whole text
 abbrev pub module_text : Circuit → List ℕ

@@ -13,8 +13,10 @@ IsTarget m (target.Out o) = o < length m.outputs
 -- Each wire and each output has exactly one assign, and an assign names only wires that earlier assigns give.
 pub record IsOrdered (m : Circuit) : Type 0 where
   pub targets : (k : ℕ) (a : Assignment) → slice_get m.assigns k ≡ Some a → IsTarget m a.target
-  pub once : (i j : ℕ) (a b : Assignment) → slice_get m.assigns i ≡ Some a → slice_get m.assigns j ≡ Some b → a.target ≡ b.target → i ≡ j
-  pub given : (t : Target) → IsTarget m t → (k : ℕ) × (a : Assignment) × (slice_get m.assigns k ≡ Some a) × (a.target ≡ t)
+  pub once : (i j : ℕ) (a b : Assignment) → slice_get m.assigns i ≡ Some a → slice_get m.assigns j ≡ Some b →
+      a.target ≡ b.target → i ≡ j
+  pub given : (t : Target) → IsTarget m t →
+      (k : ℕ) × (a : Assignment) × (slice_get m.assigns k ≡ Some a) × (a.target ≡ t)
   pub earlier : (k : ℕ) (a : Assignment) → slice_get m.assigns k ≡ Some a → (w : ℕ) → names_wire a.bit w ≡ true →
       (i : ℕ) × (b : Assignment) × (i < k) × (slice_get m.assigns i ≡ Some b) × (b.target ≡ target.Wire w)
 

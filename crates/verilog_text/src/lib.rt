@@ -1,4 +1,6 @@
 //! Modules of a small part of Verilog: what they do, when they are valid, and their text.
+//!
+//! Their meaning, settled levels from cycle to cycle, is after IEEE 1364-2005, for this part of the language alone.
 #![tactic(auto)]
 
 mod bit;

@@ -48,7 +48,8 @@ fn put_bit_of(text: &mut Vec<u8>, reg: &Reg, bit: u32) -> Result<(), NoMemory>
 }
 
 fn put_register_bit(text: &mut Vec<u8>, regs: &[Reg], place: u32, bit: u32) -> Result<(), NoMemory>
-    ensures { OnOk result (text.new.items ≡ text.old.items ++ spec.register_bit_text (slice_get regs.now place) bit) }
+    ensures { let piece = spec.register_bit_text (slice_get regs.now place) bit in
+        OnOk result (text.new.items ≡ text.old.items ++ piece) }
 {
     match regs.get(place as usize) {
         Some(reg) => put_bit_of(text, reg, bit),
@@ -88,7 +89,7 @@ fn put_bit(text: &mut Vec<u8>, m: &Module, bit: &Bit) -> Result<(), NoMemory>
 
 #[cycle(bits)]
 fn put_operand(text: &mut Vec<u8>, m: &Module, bit: &Bit) -> Result<(), NoMemory>
-    ensures { OnOk result (text.new.items ≡ text.old.items ++ spec.in_parentheses (spec.is_compound (logic bit.now)) (spec.logic_text m.now (logic bit.now))) }
+    ensures { OnOk result (text.new.items ≡ text.old.items ++ spec.operand_text m.now (logic bit.now)) }
 {
     match bit {
         Bit::And(_, _) | Bit::Or(_, _) => {
@@ -114,7 +115,8 @@ fn put_target(text: &mut Vec<u8>, m: &Module, target: Target) -> Result<(), NoMe
 
 // The names, each between these two pieces of text.
 fn put_each(text: &mut Vec<u8>, before: &[u8], names: &[Name], after: &[u8]) -> Result<(), NoMemory>
-    ensures { OnOk result (text.new.items ≡ text.old.items ++ flat_map (spec.around before.now after.now) names.now) }
+    ensures { let lines = flat_map (spec.around before.now after.now) names.now in
+        OnOk result (text.new.items ≡ text.old.items ++ lines) }
 {
     for name in names {
         put(text, before)?;
@@ -226,7 +228,8 @@ fn put_assign(text: &mut Vec<u8>, m: &Module, assign: &Assign) -> Result<(), NoM
 }
 
 fn put_assigns(text: &mut Vec<u8>, m: &Module) -> Result<(), NoMemory>
-    ensures { OnOk result (text.new.items ≡ text.old.items ++ flat_map (spec.assign_line m.now) m.now.assigns) }
+    ensures { let lines = flat_map (spec.assign_line m.now) m.now.assigns in
+        OnOk result (text.new.items ≡ text.old.items ++ lines) }
 {
     for assign in m.assigns() {
         put_assign(text, m, assign)?;
@@ -283,7 +286,8 @@ fn put_always(text: &mut Vec<u8>, m: &Module, reg: &Reg) -> Result<(), NoMemory>
 }
 
 fn put_always_lines(text: &mut Vec<u8>, m: &Module) -> Result<(), NoMemory>
-    ensures { OnOk result (text.new.items ≡ text.old.items ++ flat_map (spec.always_line m.now) m.now.regs) }
+    ensures { let lines = flat_map (spec.always_line m.now) m.now.regs in
+        OnOk result (text.new.items ≡ text.old.items ++ lines) }
 {
     for reg in m.regs() {
         put_always(text, m, reg)?;
