@@ -1,0 +1,7 @@
+use Rattle.std.proofs.Common.{refl}
+use Rattle.verilog_text.proofs.Tested.{valid-from_test}
+use Rattle.verilog_text.proofs.tests.copy.Goals as goal
+
+pub new-requires-2 : goal.new-requires-2
+new-requires-2 c =
+    rw (c.in_ok-inputs.ensures, c.in_ok-outputs.ensures, c.new-wires.ensures.items, c.new-regs.ensures.items, c.in_ok-push.ensures.items, c.new-assigns.ensures.items, c.new.ensures) (valid-from_test _ refl)

@@ -1,0 +1,16 @@
+//! Modules of a small part of Verilog: what they do, when they are valid, and their text.
+//!
+//! Their meaning, settled levels from cycle to cycle, is after IEEE 1364-2005, for this part of the language alone.
+#![tactic(auto)]
+
+mod bit;
+pub mod laws;
+mod module;
+mod print;
+
+pub use bit::{Bit, Target};
+pub use module::{Assign, Module, Reg};
+pub use print::print_module;
+
+#[cfg(test)]
+mod tests;
