@@ -1,0 +1,7 @@
+pub mod Causes
+pub mod Files
+pub mod Shelf
+pub mod Sink
+pub mod MemShelf
+pub mod MemSink
+pub mod Streams
