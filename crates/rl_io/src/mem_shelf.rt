@@ -1,4 +1,4 @@
-ghost use Rattle.std.specs.Prelude.{◌≡◌, ◌≤◌, ◌<◌, ◌-◌, ◌^◌, ◌↔◌, ℕ, List, length, take, drop, min, All, Some, IfSome};
+ghost use Rattle.std.specs.Prelude.{◌≡◌, ◌≤◌, ◌<◌, ◌-◌, ◌^◌, ◌↔◌, ℕ, List, length, take, drop, min, All, Some, IfSome, IsTrue, is_some};
 ghost use Rattle.std.specs.Option.{option_copied};
 ghost use Rattle.rl_io.specs.Files.{entries, AreDistinct, file_under};
 ghost use Rattle.rl_io.specs.Shelf.{FetchReads, FetchCounts, FetchFails};
@@ -63,6 +63,27 @@ fn find<'a>(files: &'a [(String, Vec<u8>)], name: &str) -> Option<&'a [u8]>
         }
     }
     None
+}
+
+fn is_held(files: &[(String, Vec<u8>)], name: &str) -> bool
+    ensures { result ≡ is_some (file_under name.now (entries files.now)) }
+{
+    find(files, name).is_some()
+}
+
+/// Whether no two of these files have one name, as `MemShelf::new` asks. Each name is compared with each later one, so
+/// it is for the few files of such a shelf.
+pub fn are_distinct(files: &[(String, Vec<u8>)]) -> bool
+    ensures { IsTrue result ↔ AreDistinct (entries files.now) }
+{
+    let mut rest = files;
+    while let Some((file, later)) = rest.split_first() {
+        if is_held(later, file.0.as_str()) {
+            return false;
+        }
+        rest = later;
+    }
+    true
 }
 
 fn copy_at(file: &[u8], at: u64, most: usize, buf: &mut [u8]) -> usize
