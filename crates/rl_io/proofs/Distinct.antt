@@ -1,6 +1,6 @@
 -- Names that are told apart by a look-up of each among the later ones.
-use Rattle.std.proofs.Common.{◌≡◌, ℕ, ◌<◌, List, [], ◌∷◌, length, Option, Some, None, refl, suc, sym, subst, arith}
-use Rattle.std.specs.Prelude.{Bool, true, false, cond, All, AllPairs, is_some}
+use Rattle.std.proofs.Common.{◌≡◌, ℕ, List, [], ◌∷◌, Option, Some, None, refl, suc, sym, subst, arith}
+use Rattle.std.specs.Prelude.{Bool, true, false, cond, All, is_some}
 use Rattle.std.specs.Map.{lookup}
 use Rattle.std.specs.Str.{bytes_eq}
 use Rattle.std.proofs.lemmas.Slice.Eq.{bytes_eq-Decides}

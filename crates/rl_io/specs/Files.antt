@@ -1,5 +1,5 @@
 -- Files by name, and what is known of bytes that are told.
-use Rattle.std.specs.Prelude.{◌≡◌, ℕ, List, ◌++◌, map, Option, IfSome, IsSome, IsSomeAnd, Vec, String, string_bytes, AllPairs}
+use Rattle.std.specs.Prelude.{◌≡◌, ℕ, List, ◌++◌, map, Option, IfSome, IsSomeAnd, Vec, String, string_bytes, AllPairs}
 use Rattle.std.specs.Option.{option_map}
 use Rattle.std.specs.Map.{lookup}
 use Rattle.std.specs.Str.{bytes_eq}

@@ -5,3 +5,4 @@ pub mod Sink
 pub mod MemShelf
 pub mod MemSink
 pub mod Streams
+pub mod Views

@@ -1,5 +1,5 @@
 -- A shelf in memory: its files, and which of its calls are to fail.
-use Rattle.std.specs.Prelude.{◌≡◌, ℕ, ◌+◌, ◌-◌, ◌^◌, ◌<◌, ◌≤◌, ◌⊎◌, min, if◌then◌else◌, nat_le, List, [], ◌∷◌, All, Contains, Option, Some, IsNone, is_some}
+use Rattle.std.specs.Prelude.{◌≡◌, ℕ, ◌+◌, ◌-◌, ◌^◌, ◌<◌, ◌≤◌, ◌⊎◌, min, if◌then◌else◌, nat_le, List, [], ◌∷◌, All, Contains, IsNone, is_some}
 use Rattle.rl_io.specs.Causes.{counted}
 use Rattle.rl_io.specs.Files.{Files, AreDistinct, file_under}
 use Rattle.rl_io.specs.declared.shelf.Fetched.{Fetched}

@@ -1,4 +1,5 @@
-//! Where files are read and text is written: a shelf of files and a sink of bytes, as traits, over memory and over the system.
+//! Where files are read and text is written: a shelf of files and a sink of bytes, as traits, over memory and over
+//! the system.
 #![tactic(auto)]
 
 pub mod laws;
@@ -12,8 +13,9 @@ pub mod system;
 #[cfg(test)]
 mod tests;
 
-pub use loading::{LoadError, load};
-pub use mem_shelf::MemShelf;
+pub use laws::no_planned_fault;
+pub use loading::{LARGEST_LIMIT, LoadError, load};
+pub use mem_shelf::{MemShelf, are_distinct};
 pub use mem_sink::MemSink;
 pub use putting::{SinkFault, put_all};
 pub use shelf::{Fetched, Shelf};

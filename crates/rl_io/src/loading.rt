@@ -11,11 +11,14 @@ pub const LARGEST_LIMIT: u64 = 67_108_864;
 // What one fetch is asked for at most, in bytes: much, since a fetch of a real file opens it.
 const PIECE: usize = 65_536;
 
-/// Why a file was not read: a fetch failed, or the file has more bytes than the limit.
+/// Why a file was not read.
 #[derive(Clone, Copy, Debug, PartialEq, Eq)]
 pub enum LoadError {
+    /// A fetch failed.
     Fault,
+    /// The file has more bytes than the limit.
     TooLong,
+    /// Memory ran out.
     NoMemory,
 }
 
@@ -57,9 +60,12 @@ pub fn load<S: Shelf>(
     ensures asked { S.given shelf.new ≤ S.given shelf.old + limit + 1 }
 
     // A told file that is longer than the limit never gives Ok, and an answer but want of memory has its cause.
-    ensures whole { IfOk result (λ text. (length text.items ≤ limit) × OnFile (S.contents shelf.old) name.now (λ file. file ≡ text.items)) }
-    ensures fault { IsErrOf result LoadError.Fault → Rose (S.faults shelf.old name.now) (S.faults shelf.new name.now) }
-    ensures too_long { IsErrOf result LoadError.TooLong → OnFile (S.contents shelf.old) name.now (λ file. limit < length file) }
+    ensures whole { IfOk result (λ text. (length text.items ≤ limit)
+        × OnFile (S.contents shelf.old) name.now (λ file. file ≡ text.items)) }
+    ensures fault { IsErrOf result LoadError.Fault
+        → Rose (S.faults shelf.old name.now) (S.faults shelf.new name.now) }
+    ensures too_long { IsErrOf result LoadError.TooLong
+        → OnFile (S.contents shelf.old) name.now (λ file. limit < length file) }
     ensures too_much { IsErrOf result LoadError.TooLong → RoseBy limit (S.given shelf.old) (S.given shelf.new) }
 {
     let mut piece = zeros(alloc, PIECE)?;

@@ -1,4 +1,4 @@
-ghost use Rattle.std.specs.Prelude.{◌≡◌, ◌≤◌, ◌<◌, ◌-◌, ◌^◌, ◌↔◌, ℕ, List, length, take, drop, min, All, Some, IfSome, IsTrue, is_some};
+ghost use Rattle.std.specs.Prelude.{◌≡◌, ◌≤◌, ◌<◌, ◌-◌, ◌^◌, ◌↔◌, ℕ, List, length, take, drop, All, Some, IfSome, IsTrue, is_some};
 ghost use Rattle.std.specs.Option.{option_copied};
 ghost use Rattle.rl_io.specs.Files.{entries, AreDistinct, file_under};
 ghost use Rattle.rl_io.specs.Shelf.{FetchReads, FetchCounts, FetchFails};
@@ -18,14 +18,15 @@ pub struct MemShelf {
 }
 
 impl Model for MemShelf {
-    ghost use Rattle.rl_io.specs.Files.{entries};
     ghost use Rattle.rl_io.specs.MemShelf.{HeldFiles, IsHeldFiles};
 
     ghost Value = { HeldFiles };
 
-    ghost view = { λ s. record { files = entries s.files.items; chunk = s.chunk; fails = s.fails.items; calls = s.calls; given = s.given } };
+    ghost use Rattle.rl_io.specs.Views.{held_files};
 
-    ghost invariant = { λ s. IsHeldFiles (record { files = entries s.files.items; chunk = s.chunk; fails = s.fails.items; calls = s.calls; given = s.given }) };
+    ghost view = { held_files };
+
+    ghost invariant = { λ s. IsHeldFiles (held_files s) };
 }
 
 impl MemShelf {
@@ -35,7 +36,13 @@ impl MemShelf {
         requires chunk { 1 ≤ chunk }
         requires names { AreDistinct (entries files.items) }
         requires early { All (λ f. f < 2 ^ 64 - 1) fails.items }
-        ensures { result ≡ record { files = entries files.items; chunk = chunk; fails = fails.items; calls = 0; given = 0 } }
+        ensures { result ≡ record {
+          files = entries files.items;
+          chunk = chunk;
+          fails = fails.items;
+          calls = 0;
+          given = 0;
+        } }
     {
         MemShelf {
             files,
@@ -108,8 +115,8 @@ impl Shelf for MemShelf {
 
     ghost plan = { λ s. Some s.fails };
 
-    /// It fails exactly where the number of the call is in `fails` or no file has the name.
-    #[tactic(auto, using(crate::proofs::Reading::stays, crate::proofs::Reading::rises))]
+    /// It fails exactly where the number of the call is in `fails` or no file has the name. No heap is taken.
+    #[tactic(auto, using(crate::proofs::Faults::stays, crate::proofs::Faults::rises))]
     fn fetch(&mut self, name: &str, at: u64, buf: &mut [u8]) -> Fetched
         requires { 0 < length buf.old }
         ensures kept { Some self.new.files ≡ Some self.old.files }
@@ -120,7 +127,8 @@ impl Shelf for MemShelf {
         ensures given { FetchCounts result self.old.given self.new.given }
         ensures cause { FetchFails result (faults_under self.old name.now) (faults_under self.new name.now) }
         ensures failed { (result ≡ Fetched.Failed) ↔ IsToFail self.old name.now }
-        ensures piece { IfSome (file_under name.now self.old.files) (λ file. Gives result (piece_size (length file) at self.old.chunk (length buf.old))) }
+        ensures piece { IfSome (file_under name.now self.old.files) (λ file.
+            Gives result (piece_size (length file) at self.old.chunk (length buf.old))) }
         ensures after { self.new ≡ after_fetch self.old result }
     {
         self.calls = self.calls.saturating_add(1);

@@ -25,9 +25,11 @@ impl Model for MemSink {
 
     ghost Value = { HeldBytes };
 
-    ghost view = { λ s. record { written = s.written.items; room = s.room; chunk = s.chunk; fails = s.fails.items; calls = s.calls; faults = s.faults } };
+    ghost use Rattle.rl_io.specs.Views.{held_bytes};
 
-    ghost invariant = { λ s. IsHeldBytes (record { written = s.written.items; room = s.room; chunk = s.chunk; fails = s.fails.items; calls = s.calls; faults = s.faults }) × (s.room ≤ vec_capacity s.written) };
+    ghost view = { held_bytes };
+
+    ghost invariant = { λ s. IsHeldBytes (held_bytes s) × (s.room ≤ vec_capacity s.written) };
 }
 
 impl MemSink {
@@ -40,14 +42,17 @@ impl MemSink {
         fails: Vec<u64>,
     ) -> Result<MemSink, NoMemory>
         requires { 1 ≤ chunk }
-        ensures { IfOk result (λ s. s ≡ record { written = []; room = room; chunk = chunk; fails = fails.items; calls = 0; faults = 0 }) }
+        ensures { IfOk result (λ s. s ≡ record {
+          written = [];
+          room = room;
+          chunk = chunk;
+          fails = fails.items;
+          calls = 0;
+          faults = 0;
+        }) }
     {
-        let written = match Vec::with_capacity(alloc, room) {
-            Ok(written) => written,
-            Err(_) => return Err(NoMemory),
-        };
         Ok(MemSink {
-            written,
+            written: Vec::with_capacity(alloc, room)?,
             room,
             chunk,
             fails,
@@ -78,7 +83,7 @@ impl Sink for MemSink {
 
     ghost plan = { λ s. Some (plan_of s) };
 
-    /// It fails exactly where the number of the call is in `fails` or no room is left.
+    /// It fails exactly where the number of the call is in `fails` or no room is left. No heap is taken.
     fn put(&mut self, piece: &[u8]) -> Put
         requires { 0 < length piece.now }
         ensures planned { Some (plan_of self.new) ≡ Some (plan_of self.old) }

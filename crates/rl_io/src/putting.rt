@@ -16,7 +16,8 @@ pub fn put_all<K: Sink>(sink: &mut K, text: &[u8]) -> Result<(), SinkFault>
     ensures planned { K.plan sink.new ≡ K.plan sink.old }
     ensures later { K.faults sink.old ≤ K.faults sink.new }
     ensures ok { OnOk result (Adds (K.written sink.old) (K.written sink.new) text.now) }
-    ensures part { OnErr result ((n : ℕ) × (n < length text.now) × Adds (K.written sink.old) (K.written sink.new) (take n text.now)) }
+    ensures part { OnErr result ((n : ℕ) × (n < length text.now)
+        × Adds (K.written sink.old) (K.written sink.new) (take n text.now)) }
     ensures fault { OnErr result (Rose (K.faults sink.old) (K.faults sink.new)) }
 {
     let mut done = 0;

@@ -2,11 +2,14 @@ ghost use Rattle.std.specs.Prelude.{◌≡◌, ◌<◌, ◌≤◌, List, ℕ, Op
 ghost use Rattle.rl_io.specs.Files.{Files};
 ghost use Rattle.rl_io.specs.Shelf.{FetchReads, FetchCounts, FetchFails};
 
-/// What a fetch answers: so many bytes, or that the file ends, or that the fetch failed.
+/// What a fetch answers.
 #[derive(Clone, Copy, Debug, PartialEq, Eq)]
 pub enum Fetched {
+    /// So many bytes were read.
     Got(usize),
+    /// The file has no byte at this place.
     End,
+    /// The fetch failed.
     Failed,
 }
 

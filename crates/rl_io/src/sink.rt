@@ -1,10 +1,12 @@
 ghost use Rattle.std.specs.Prelude.{◌≡◌, ◌≤◌, ◌<◌, List, ℕ, Option, None, length};
 ghost use Rattle.rl_io.specs.Sink.{PutAdds, PutFails, SinkPlan};
 
-/// What a put answers: that it took so many bytes, or that it failed.
+/// What a put answers.
 #[derive(Clone, Copy, Debug, PartialEq, Eq)]
 pub enum Put {
+    /// So many bytes were taken, from the front.
     Took(usize),
+    /// The put failed, and nothing was taken.
     Failed,
 }
 

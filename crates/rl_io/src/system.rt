@@ -1,5 +1,4 @@
 ghost use Rattle.std.specs.Prelude.{ℕ, List, None, IfOk, ◌≡◌, ◌<◌, ◌≤◌, true, false, length};
-ghost use Rattle.rl_io.specs.Files.{Files};
 ghost use Rattle.rl_io.specs.Shelf.{FetchReads, FetchCounts, FetchFails};
 ghost use Rattle.rl_io.specs.Sink.{PutAdds, PutFails};
 ghost use Rattle.rl_io.specs.Streams.{after_fetch, after_put};

@@ -1,4 +1,4 @@
-use Rattle.std.proofs.Common.{◌≡◌, ◌≤◌, ℕ, length, ◌+◌, ◌-◌, ◌^◌, min, vec_len}
+use Rattle.std.proofs.Common.{◌≡◌, ◌≤◌, length, ◌+◌, ◌-◌, ◌^◌, min, vec_len}
 use Rattle.rl_io.proofs.Reading.{HasRead}
 use Rattle.rl_io.proofs.loading.load.Given as goal
 

@@ -1,5 +1,5 @@
 use Rattle.std.proofs.Common.{arith}
-use Rattle.rl_io.proofs.Reading.{adds_more, rest_of}
+use Rattle.rl_io.proofs.Adding.{adds_more, rest_of}
 use Rattle.rl_io.proofs.putting.put_all.Goals as goal
 
 pub loop-done-preserved : goal.loop-done-preserved
