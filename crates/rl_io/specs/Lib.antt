@@ -1,0 +1,8 @@
+pub mod Causes
+pub mod Files
+pub mod Shelf
+pub mod Sink
+pub mod MemShelf
+pub mod MemSink
+pub mod Streams
+pub mod Views
