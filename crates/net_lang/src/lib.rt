@@ -3,7 +3,13 @@
 
 mod ast;
 mod print;
+mod small_error;
+mod small_names;
+mod small;
+mod small_parts;
 
 pub use ast::{Binding, Expr, Network};
 pub use print::print_network;
 pub use rl_text::Name;
+pub use small::read_small;
+pub use small_error::SmallError;
