@@ -1,11 +1,11 @@
 -- What is printed is read again.
 use Rattle.std.proofs.Common.{◌≡◌, ◌⊎◌, inl, inr, ℕ, zero, suc, ◌+◌, ◌≤◌, ◌<◌, Bool, true, false, not, cond, ◌&&◌, ◌||◌, List, [], ◌∷◌, ◌++◌, length, take, drop, map, Option, Some, None, refl, sym, ap, subst, ◌∙◌, append_assoc, arith, eqb}
-use Rattle.std.specs.Prelude.{IsTrue, nat_le, nat_lt, codes, slice_index_or, position, flat_map}
+use Rattle.std.specs.Prelude.{IsTrue, ◌==◌, nat_le, nat_lt, codes, slice_index_or, position, flat_map}
 use Rattle.std.specs.List.{list_all, list_any, AllByRecursion, prefix_len, position_or_len}
 use Rattle.std.specs.Str.{bytes_eq}
 use Rattle.std.proofs.lemmas.List.{take_at, drop_at, length-append, append-nil}
 use Rattle.std.proofs.lemmas.Slice.Eq.{bytes_eq-Decides}
-use Rattle.std.proofs.lemmas.Bool.{leb-true, le-leb, lt-ltb}
+use Rattle.std.proofs.lemmas.Bool.{le-leb, lt-ltb, ne_eqb}
 use Rattle.rl_text.specs.Names.{is_letter, is_digit, is_underscore, is_name, is_name_start, is_name_byte}
 use Rattle.net_lang.specs.Formula.{Formula, Never, Input, Named, Min, Max, Lt, Inc, Equation, Net, net}
 use Rattle.net_lang.specs.Rules.{is_reserved, is_let_name, is_port_name, begins_with_underscore, are_distinct, names_of, IsOver, IsNetwork}
@@ -170,6 +170,12 @@ output_again inputs lets e rest port small over h =
     ap (output_at inputs) (regroup_line e.name (formula_text inputs lets e.body) rest)
     ∙ rw (stripped_again (codes "output ") (e.name ++ after_name), take_name e.name after_name bytes refl, drop_name e.name after_name bytes refl, stripped_again (codes " = ") body, body_again inputs lets e.body rest small over h, stripped_again (codes "\n") rest) refl
 
+passes : {A : Type 0} (k : ℕ) (x y : A) → 0 < k → cond (k == 0) x y ≡ y
+passes k x y lt = rw (ne_eqb k 0 (λ e. omega (arith, lt, e))) refl
+
+some_text : (inputs lets : List (List ℕ)) (e : Equation) (rest : List ℕ) → 0 < length (equation_text (codes "output ") inputs lets e ++ rest)
+some_text inputs lets e rest = omega arith
+
 outputs_again : (left : ℕ) (inputs lets : List (List ℕ)) (es : List Equation) → length es ≤ left → IsTrue (list_all is_port_name (names_of es)) → AllByRecursion (λ e. IsSmallBody e.body) es → AllByRecursion (λ e. IsOver (length inputs) 0 e.body) es → AreInputs inputs
     → outputs_at inputs left (equations_text (codes "output ") inputs lets es) ≡ Some (es, [])
 unfolding outputs_at
@@ -179,4 +185,64 @@ outputs_again zero inputs lets (e ∷ es) le ports small over h = absurd (omega 
 outputs_again (suc left) inputs lets (e ∷ es) le ports small over h =
     let a = and_true (is_port_name e.name) (list_all is_port_name (names_of es)) ports in
     let rest = equations_text (codes "output ") inputs lets es in
-    rw (output_again inputs lets e rest a.0 small.0 over.0 h, outputs_again left inputs lets es (omega (arith, le)) a.1 small.1 over.1 h) refl
+    passes (length (equation_text (codes "output ") inputs lets e ++ rest)) _ _ (some_text inputs lets e rest)
+    ∙ rw (output_again inputs lets e rest a.0 small.0 over.0 h, outputs_again left inputs lets es (omega (arith, le)) a.1 small.1 over.1 h) refl
+
+any_front : (p : List ℕ → Bool) (xs ys : List (List ℕ)) → list_any p (xs ++ ys) ≡ false → list_any p xs ≡ false
+any_front p [] ys e = refl
+any_front p (x ∷ xs) ys e = let a = or_false (p x) (list_any p (xs ++ ys)) e in rw (a.0, any_front p xs ys a.1) refl
+
+distinct_front : (xs ys : List (List ℕ)) → IsTrue (are_distinct (xs ++ ys)) → IsTrue (are_distinct xs)
+distinct_front [] ys e = refl
+distinct_front (x ∷ xs) ys e =
+    let a = and_true (not (list_any (bytes_eq x) (xs ++ ys))) (are_distinct (xs ++ ys)) e in
+    rw (any_front (bytes_eq x) xs ys (not_true _ a.0), distinct_front xs ys a.1) refl
+
+ports_again : (inputs : List (List ℕ)) (outputs : List Equation) → IsNetwork (net inputs [] outputs) → IsTrue (are_outputs inputs outputs)
+unfolding are_outputs
+ports_again inputs outputs h =
+    let distinct : IsTrue (are_distinct (inputs ++ names_of outputs)) = subst (λ (x : List (List ℕ)). IsTrue (are_distinct (x ++ names_of outputs))) (append-nil inputs) h.distinct in
+    rw (le-leb 1 (length outputs) h.some_output, h.output_names, distinct) refl
+
+regroup_text : (head names lines : List ℕ) → head ++ names ++ codes "\n" ++ [] ++ lines ≡ head ++ (names ++ (codes "\n" ++ lines))
+regroup_text head names lines = simp (append_assoc, append-nil) refl
+
+of_parts : (inputs : List (List ℕ)) (outputs : List Equation) → IsNetwork (net inputs [] outputs) → AllByRecursion (λ e. IsSmallBody e.body) outputs
+    → candidate (network_text (net inputs [] outputs)) ≡ Some (net inputs [] outputs)
+unfolding candidate network_text
+of_parts inputs outputs h small =
+    let good = ports_again inputs outputs h in
+    let are_inputs : AreInputs inputs = record { names = h.input_names; distinct = distinct_front inputs (names_of outputs) (subst (λ (x : List (List ℕ)). IsTrue (are_distinct (x ++ names_of outputs))) (append-nil inputs) h.distinct) } in
+    let lines = equations_text (codes "output ") inputs [] outputs in
+    ap candidate (regroup_text (codes "racenet 1\ninput") (spaced_names inputs) lines)
+    ∙ rw (inputs_again inputs lines h.some_input h.few_inputs h.input_names, outputs_again 64 inputs [] outputs h.few_outputs h.output_names small h.outputs_over are_inputs, good) refl
+
+-- the candidate of a small network's text is that network
+pub candidate_again : (n : Net) → IsNetwork n → IsSmall n → candidate (network_text n) ≡ Some n
+candidate_again n h small =
+    let e : n ≡ net n.inputs [] n.outputs = λ i. net n.inputs (small.no_lets i) n.outputs in
+    subst (λ (m : Net). candidate (network_text m) ≡ Some m) (sym e) (of_parts n.inputs n.outputs (subst IsNetwork e h) small.bodies)
+
+some_is : {A : Type 0} (x y : A) → Some x ≡ Some y → x ≡ y
+some_is x y e = cc
+
+-- a text is the small text of its candidate alone
+pub candidate_of : (bytes : List ℕ) (n : Net) → IsSmallText bytes n → candidate bytes ≡ Some n
+candidate_of bytes n h = ap candidate h.text ∙ candidate_again n h.network h.small
+
+pub one_network : (bytes : List ℕ) (m n : Net) → IsSmallText bytes m → IsSmallText bytes n → m ≡ n
+one_network bytes m n h k = some_is m n (sym (candidate_of bytes m h) ∙ candidate_of bytes n k)
+
+-- where there is no candidate, the text is of no network
+pub not_other : (bytes : List ℕ) (n : Net) → candidate bytes ≡ None → IsSmallText bytes n → ⊥
+not_other bytes n none h = apart (sym none ∙ candidate_of bytes n h) where
+  apart : None {T = Net} ≡ Some n → ⊥
+  apart x = cc
+
+-- nor is it where the candidate prints otherwise
+pub not_printed : (bytes printed : List ℕ) (m n : Net) → candidate bytes ≡ Some m → printed ≡ network_text m → bytes_eq printed bytes ≡ false → IsSmallText bytes n → ⊥
+not_printed bytes printed m n found print other h =
+    let e : m ≡ n = some_is m n (sym found ∙ candidate_of bytes n h) in
+    apart (sym other ∙ (bytes_eq-Decides printed bytes).1 (print ∙ ap network_text e ∙ sym h.text)) where
+  apart : false ≡ true → ⊥
+  apart x = cc

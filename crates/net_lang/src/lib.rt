@@ -2,6 +2,7 @@
 #![tactic(auto)]
 
 mod ast;
+mod laws;
 mod print;
 mod small_error;
 mod small_names;
@@ -9,6 +10,7 @@ mod small;
 mod small_parts;
 
 pub use ast::{Binding, Expr, Network};
+pub use laws::one_small_network;
 pub use print::print_network;
 pub use rl_text::Name;
 pub use small::read_small;
