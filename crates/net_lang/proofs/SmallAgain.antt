@@ -1,18 +1,20 @@
 -- What is printed is read again.
-use Rattle.std.proofs.Common.{◌≡◌, ◌⊎◌, inl, inr, ℕ, zero, suc, ◌+◌, ◌≤◌, ◌<◌, Bool, true, false, not, cond, ◌&&◌, ◌||◌, List, [], ◌∷◌, ◌++◌, length, take, drop, map, Option, Some, None, refl, sym, ap, subst, ◌∙◌, append_assoc, arith, eqb}
-use Rattle.std.specs.Prelude.{IsTrue, ◌==◌, nat_le, nat_lt, codes, slice_index_or, position, flat_map}
-use Rattle.std.specs.List.{list_all, list_any, AllByRecursion, prefix_len, position_or_len}
+use Rattle.std.proofs.Common.{◌≡◌, ℕ, zero, suc, ◌≤◌, ◌<◌, Bool, true, false, not, cond, ◌&&◌, ◌||◌, List, [], ◌∷◌, ◌++◌, length, take, drop, Option, Some, None, Result, Err, refl, sym, ap, subst, ◌∙◌, append_assoc, arith}
+use Rattle.std.specs.Prelude.{IsTrue, ◌==◌, nat_le, codes, slice_index_or}
+use Rattle.std.specs.List.{list_all, list_any, AllByRecursion, position_or_len}
 use Rattle.std.specs.Str.{bytes_eq}
-use Rattle.std.proofs.lemmas.List.{take_at, drop_at, length-append, append-nil}
+use Rattle.std.proofs.lemmas.List.{take_at, drop_at, append-nil}
 use Rattle.std.proofs.lemmas.Slice.Eq.{bytes_eq-Decides}
 use Rattle.std.proofs.lemmas.Bool.{le-leb, lt-ltb, ne_eqb}
 use Rattle.rl_text.specs.Names.{is_letter, is_digit, is_underscore, is_name, is_name_start, is_name_byte}
-use Rattle.net_lang.specs.Formula.{Formula, Never, Input, Named, Min, Max, Lt, Inc, Equation, Net, net}
+use Rattle.net_lang.specs.declared.small_error.SmallError.{SmallError}
+use Rattle.net_lang.specs.declared.small_error.SmallError.TheVariants.{Other, NoMemory}
+use Rattle.net_lang.specs.Formula.{Formula, Input, Min, Equation, Net, net}
 use Rattle.net_lang.specs.Rules.{is_reserved, is_let_name, is_port_name, begins_with_underscore, are_distinct, names_of, IsOver, IsNetwork}
 use Rattle.net_lang.specs.Text.{call_text, formula_text, equation_text, equations_text, spaced_names, network_text}
-use Rattle.net_lang.specs.Small.{IsSmallBody, IsSmallOver, IsSmall, IsSmallText}
-use Rattle.net_lang.specs.Candidate.{◌>>=◌, stripped, name_len, spaced_name_at, with_name, names_at, inputs_at, place_at, min_at, is_call, input_at, body_at, equation, output_at, outputs_at, are_outputs, candidate}
-use Rattle.net_lang.proofs.SmallNetworks.{small_cases, and_true}
+use Rattle.net_lang.specs.Small.{IsSmallBody, IsSmall, IsSmallText}
+use Rattle.net_lang.specs.Candidate.{Fails, stripped, name_len, spaced_name_at, with_name, names_at, inputs_at, place_at, min_at, input_at, body_at, output_at, outputs_at, are_outputs, candidate}
+use Rattle.net_lang.proofs.SmallNetworks.{and_true}
 
 pub stripped_again : (word rest : List ℕ) → stripped word (word ++ rest) ≡ Some rest
 unfolding stripped
@@ -233,10 +235,13 @@ candidate_of bytes n h = ap candidate h.text ∙ candidate_again n h.network h.s
 pub one_network : (bytes : List ℕ) (m n : Net) → IsSmallText bytes m → IsSmallText bytes n → m ≡ n
 one_network bytes m n h k = some_is m n (sym (candidate_of bytes m h) ∙ candidate_of bytes n k)
 
+abbrev no_net : Option Net
+no_net = None
+
 -- where there is no candidate, the text is of no network
 pub not_other : (bytes : List ℕ) (n : Net) → candidate bytes ≡ None → IsSmallText bytes n → ⊥
 not_other bytes n none h = apart (sym none ∙ candidate_of bytes n h) where
-  apart : None {T = Net} ≡ Some n → ⊥
+  apart : no_net ≡ Some n → ⊥
   apart x = cc
 
 -- nor is it where the candidate prints otherwise
@@ -244,5 +249,12 @@ pub not_printed : (bytes printed : List ℕ) (m n : Net) → candidate bytes ≡
 not_printed bytes printed m n found print other h =
     let e : m ≡ n = some_is m n (sym found ∙ candidate_of bytes n h) in
     apart (sym other ∙ (bytes_eq-Decides printed bytes).1 (print ∙ ap network_text e ∙ sym h.text)) where
-  apart : false ≡ true → ⊥
-  apart x = cc
+      apart : false ≡ true → ⊥
+      apart x = cc
+
+abbrev failed : {T : Type 0} → SmallError → Result T SmallError
+failed e = Err e
+
+pub not_failed : {T : Type 0} (bytes : List ℕ) (e : SmallError) (n : Net) → Fails e (candidate bytes) → failed {T = T} e ≡ failed {T = T} Other → IsSmallText bytes n → ⊥
+not_failed bytes Other n read is h = not_other bytes n read h
+not_failed bytes NoMemory n read is h = absurd cc

@@ -1,12 +1,12 @@
 -- Names and outputs read one after the other, as the loops read them.
-use Rattle.std.proofs.Common.{◌≡◌, ℕ, zero, suc, ◌-◌, ◌+◌, ◌≤◌, ◌<◌, Bool, true, false, List, [], ◌∷◌, ◌++◌, length, take, drop, Option, Some, None, refl, sym, ap, ◌∙◌, append_assoc, arith}
+use Rattle.std.proofs.Common.{◌≡◌, ℕ, suc, ◌-◌, ◌+◌, ◌≤◌, ◌<◌, true, false, List, [], ◌∷◌, ◌++◌, length, Option, Some, None, refl, sym, ap, ◌∙◌, append_assoc, arith}
 use Rattle.std.specs.Prelude.{◌==◌}
 use Rattle.std.specs.List.{AllByRecursion}
 use Rattle.std.proofs.lemmas.List.{append-nil}
 use Rattle.net_lang.specs.declared.small_error.SmallError.{SmallError}
 use Rattle.net_lang.specs.declared.small_error.SmallError.TheVariants.{Other, NoMemory}
 use Rattle.net_lang.specs.Formula.{Equation}
-use Rattle.net_lang.specs.Candidate.{◌>>=◌, Fails, spaced_name_at, with_name, names_at, output_at, outputs_at}
+use Rattle.net_lang.specs.Candidate.{◌>>=◌, Fails, spaced_name_at, names_at, output_at, outputs_at}
 
 -- the names before, and those that are still read
 abbrev pub with_names : List (List ℕ) → List (List ℕ) × List ℕ → List (List ℕ) × List ℕ
@@ -19,7 +19,7 @@ name_goes_on front most i bytes name after total lt h so_far =
     let k : most - i ≡ suc (most - (i + 1)) = omega arith in
     let read = names_at (most - (i + 1)) after in
     let one : with_names front (names_at (most - i) bytes) ≡ with_names (front ++ name ∷ []) read =
-        rw (k, h) (ap (λ (ns : List (List ℕ)). (ns, read.1)) (sym (append_assoc front (name ∷ []) read.0))) in
+    rw (k, h) (ap (λ (ns : List (List ℕ)). (ns, read.1)) (sym (append_assoc front (name ∷ []) read.0))) in
     sym one ∙ so_far
 
 pub names_stop : (front : List (List ℕ)) (most i : ℕ) (bytes : List ℕ) (total : List (List ℕ) × List ℕ) → i < most → spaced_name_at bytes ≡ None
@@ -28,7 +28,7 @@ unfolding names_at
 names_stop front most i bytes total lt h so_far =
     let k : most - i ≡ suc (most - (i + 1)) = omega arith in
     let one : with_names front (names_at (most - i) bytes) ≡ (front, bytes) =
-        rw (k, h) (ap (λ (ns : List (List ℕ)). (ns, bytes)) (append-nil front)) in
+    rw (k, h) (ap (λ (ns : List (List ℕ)). (ns, bytes)) (append-nil front)) in
     sym so_far ∙ one
 
 pub names_end : (front : List (List ℕ)) (most i : ℕ) (bytes : List ℕ) (total : List (List ℕ) × List ℕ) → most ≤ i → with_names front (names_at (most - i) bytes) ≡ total → total ≡ (front, bytes)
@@ -52,7 +52,7 @@ unfolding outputs_at
 output_goes_on front inputs most i bytes e after total lt some h so_far =
     let k : most - i ≡ suc (most - (i + 1)) = omega arith in
     let one : with_outputs front (outputs_at inputs (most - i) bytes) ≡ with_outputs (front ++ e ∷ []) (outputs_at inputs (most - (i + 1)) after) =
-        rw (k, some, h) (regroup front e (outputs_at inputs (most - (i + 1)) after)) in
+    rw (k, some, h) (regroup front e (outputs_at inputs (most - (i + 1)) after)) in
     sym one ∙ so_far
 
 pub outputs_fail : (e : SmallError) (front : List Equation) (inputs : List (List ℕ)) (most i : ℕ) (bytes : List ℕ) (total : Option (List Equation × List ℕ)) → i < most → (length bytes == 0) ≡ false → Fails e (output_at inputs bytes)

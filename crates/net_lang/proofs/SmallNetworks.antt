@@ -1,11 +1,11 @@
 -- What keeps the rules of networks: inputs and small outputs over them.
-use Rattle.std.proofs.Common.{◌≡◌, ◌⊎◌, inl, inr, ℕ, zero, suc, ◌+◌, ◌≤◌, ◌<◌, Bool, true, false, ◌&&◌, List, [], ◌∷◌, ◌++◌, length, map, refl, sym, ap, subst, ◌∙◌, arith}
-use Rattle.std.specs.Prelude.{IsTrue, nat_le, max, sum_by}
+use Rattle.std.proofs.Common.{◌≡◌, ◌⊎◌, inl, inr, ℕ, ◌≤◌, Bool, true, false, ◌&&◌, List, [], ◌∷◌, ◌++◌, length, map, refl, sym, subst, arith}
+use Rattle.std.specs.Prelude.{IsTrue, nat_le, sum_by}
 use Rattle.std.specs.List.{list_all, AllByRecursion}
 use Rattle.std.proofs.lemmas.List.Sums.{sum_by-cons}
 use Rattle.std.proofs.lemmas.List.{append-nil}
 use Rattle.std.proofs.lemmas.Bool.{leb-true}
-use Rattle.net_lang.specs.Formula.{Formula, Never, Input, Named, Min, Max, Lt, Inc, Equation, Net, net}
+use Rattle.net_lang.specs.Formula.{Formula, Input, Min, Equation, net}
 use Rattle.net_lang.specs.Rules.{is_port_name, are_distinct, names_of, joins, delays, nesting, span, IsOver, IsNetwork}
 use Rattle.net_lang.specs.Small.{IsSmallBody, IsSmallOver, IsSmall}
 use Rattle.net_lang.specs.Candidate.{are_outputs}

@@ -1,7 +1,7 @@
 -- Small networks, and the texts that they are printed as.
 use Rattle.std.specs.Prelude.{◌≡◌, ℕ, List, []}
 use Rattle.std.specs.List.{AllByRecursion}
-use Rattle.net_lang.specs.Formula.{Formula, Input, Min, Equation, Net}
+use Rattle.net_lang.specs.Formula.{Formula, Input, Min, Net}
 use Rattle.net_lang.specs.Rules.{IsNetwork, IsOver}
 use Rattle.net_lang.specs.Text.{network_text}
 

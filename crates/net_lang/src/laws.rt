@@ -4,5 +4,4 @@ ghost use Rattle.net_lang.specs.Small.{IsTextOfOne};
 /// A text is the small text of at most one network.
 pub fn one_small_network()
     ensures { IsTextOfOne }
-{
-}
+{}

@@ -1,12 +1,12 @@
-//! Networks of race logic: what they are, and their printing.
+//! Networks of race logic: what they are, their printing, and the reading of small texts.
 #![tactic(auto)]
 
 mod ast;
 mod laws;
 mod print;
+mod small;
 mod small_error;
 mod small_names;
-mod small;
 mod small_parts;
 
 pub use ast::{Binding, Expr, Network};

@@ -15,8 +15,10 @@ use rl_text::Name;
 use rl_time::NoMemory;
 use std::alloc::Global;
 
+/// As many inputs as a network has at most, and as many outputs.
 const MOST_PORTS: u32 = 64;
 
+/// The names at the front, 64 at most, and what follows them.
 fn read_names(alloc: Global, text: &[u8]) -> Result<(Vec<Name>, &[u8]), SmallError>
     ensures value { Gives (λ x. (x.0.items, x.1.now)) result (Some (names_at 64 text.now)) }
     ensures few { IfOk result (λ x. length x.0.items ≤ 64) }
@@ -33,6 +35,7 @@ fn read_names(alloc: Global, text: &[u8]) -> Result<(Vec<Name>, &[u8]), SmallErr
     Ok((names, rest))
 }
 
+/// The outputs at the front, 64 at most, and what follows their lines.
 fn read_outputs<'a>(
     alloc: Global,
     inputs: &[Name],
@@ -159,5 +162,100 @@ pub fn read_small(alloc: Global, text: &[u8]) -> Result<Network, SmallError>
         Ok(network)
     } else {
         Err(SmallError::Other)
+    }
+}
+
+#[cfg(test)]
+mod tests {
+    use super::read_small;
+    use crate::ast::Network;
+    use crate::print::print_network;
+    use crate::small_error::SmallError;
+    use std::test::Fail;
+
+    fn is_other(read: Result<Network, SmallError>) -> bool {
+        match read {
+            Ok(_) => false,
+            Err(e) => e == SmallError::Other,
+        }
+    }
+
+    #[test]
+    fn a_small_text_is_read(rt: HostRuntime) -> Result<(), Fail> {
+        let texts: [&[u8]; 4] = [
+            b"racenet 1\ninput a b\noutput y = min(a, b)\n",
+            b"racenet 1\ninput a b\noutput y = a\n",
+            b"racenet 1\ninput a b\noutput y = min(b, b)\noutput z1 = b\n",
+            b"racenet 1\ninput min_ a_123456789012345678901234567890\noutput Y = min_\n",
+        ];
+        for text in &texts {
+            match read_small(rt.alloc(), text) {
+                Ok(network) => {
+                    let printed = print_network(rt.alloc(), &network)?;
+                    assert_eq!(rt; printed.as_slice(), *text);
+                }
+                Err(_) => assert!(rt; false),
+            }
+        }
+        Ok(())
+    }
+
+    #[test]
+    fn the_parts_of_a_network_are_read(rt: HostRuntime) -> Result<(), Fail> {
+        let text = b"racenet 1\ninput a b\noutput y = min(a, b)\n".as_slice();
+        assert_eq!(rt; text.len(), 41);
+        match read_small(rt.alloc(), text) {
+            Ok(network) => {
+                assert_eq!(rt; network.inputs().len(), 2);
+                assert_eq!(rt; network.lets().len(), 0);
+                assert_eq!(rt; network.outputs().len(), 1);
+                assert_eq!(rt; network.outputs()[0].name().bytes(), b"y".as_slice());
+            }
+            Err(_) => assert!(rt; false),
+        }
+        Ok(())
+    }
+
+    #[test]
+    fn every_other_text_is_other(rt: HostRuntime) -> Result<(), Fail> {
+        let texts: [&[u8]; 18] = [
+            b"",
+            b"racenet 1\ninput a b\noutput y = max(a, b)\n",
+            b"racenet 1\ninput a  b\noutput y = min(a, b)\n",
+            b"racenet 1\ninput a b\noutput y = min(a,b)\n",
+            b"racenet 1\ninput a b\noutput y = min(a, b)",
+            b"racenet 1\ninput a b\noutput y = min(a, b)\n\n",
+            b"racenet 1\r\ninput a b\noutput y = min(a, b)\n",
+            b"racenet 1\ninput a b\nlet p = a\noutput y = p\n",
+            b"racenet 1\ninput a b\noutput y = c\n",
+            b"racenet 1\ninput a b\noutput y = min(a, min(a, b))\n",
+            b"racenet 1\ninput a a\noutput y = a\n",
+            b"racenet 1\ninput a b\noutput a = b\n",
+            b"racenet 1\ninput a b\noutput y = a\noutput y = b\n",
+            b"racenet 1\ninput min\noutput y = min\n",
+            b"racenet 1\ninput _a\noutput y = _a\n",
+            b"racenet 1\ninput a23456789012345678901234567890123\noutput y = a23456789012345678901234567890123\n",
+            b"racenet 1\ninput\noutput y = never\n",
+            b"racenet 1\ninput a b\n",
+        ];
+        for text in &texts {
+            assert!(rt; is_other(read_small(rt.alloc(), text)));
+        }
+        Ok(())
+    }
+
+    #[test]
+    fn at_most_64_inputs_are_read(rt: HostRuntime) -> Result<(), Fail> {
+        let names: &[u8] =
+            b" aa ab ac ad ae af ag ah ai aj ak al am an ao ap ba bb bc bd be bf bg bh bi bj bk bl bm bn bo bp ca cb cc cd ce cf cg ch ci cj ck cl cm cn co cp da db dc dd de df dg dh di dj dk dl dm dn do dp";
+        let mut text = Vec::from_slice(rt.alloc(), b"racenet 1\ninput")?;
+        text.extend_from_slice(names)?;
+        text.extend_from_slice(b"\noutput y = dp\n")?;
+        assert!(rt; read_small(rt.alloc(), text.as_slice()).is_ok());
+        let mut text = Vec::from_slice(rt.alloc(), b"racenet 1\ninput")?;
+        text.extend_from_slice(names)?;
+        text.extend_from_slice(b" z\noutput y = dp\n")?;
+        assert!(rt; is_other(read_small(rt.alloc(), text.as_slice())));
+        Ok(())
     }
 }

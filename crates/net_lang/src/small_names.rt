@@ -7,6 +7,7 @@ ghost use Rattle.net_lang.specs.Rules.{is_reserved, is_port_name, begins_with_un
 
 use rl_text::Name;
 
+/// Whether a name may go on with this byte.
 pub fn is_name_byte(b: u8) -> bool
     ensures { result ≡ is_name_byte b }
 {
@@ -67,6 +68,7 @@ fn is_port_name(name: &[u8]) -> bool
     is_name && is_short && !is_reserved && !is_hidden
 }
 
+/// Whether inputs and outputs may have these names.
 pub fn are_port_names(names: &[Name]) -> bool
     ensures { result ≡ list_all is_port_name names.now }
 {
@@ -79,6 +81,7 @@ fn is_among(name: &Name, names: &[Name]) -> bool
     names.iter().any(|other| name.bytes() == other.bytes())
 }
 
+/// Whether no name stands twice. The names are compared pair by pair.
 pub fn are_distinct(names: &[Name]) -> bool
     ensures { result ≡ are_distinct names.now }
 {

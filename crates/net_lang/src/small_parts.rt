@@ -12,6 +12,7 @@ use crate::small_names::is_name_byte;
 use rl_text::Name;
 use std::alloc::Global;
 
+/// What follows a word that stands at the front.
 #[tactic(auto, unfolding(crate::specs::Candidate::stripped))]
 pub fn strip<'a>(text: &'a [u8], word: &[u8]) -> Result<&'a [u8], SmallError>
     ensures { Gives (λ rest. rest.now) result (stripped word.now text.now) }
@@ -84,7 +85,11 @@ fn min_of(alloc: Global, a: u32, b: u32) -> Result<Expr, SmallError>
 }
 
 #[tactic(auto, unfolding(crate::specs::Candidate::min_at))]
-fn read_min<'a>(alloc: Global, inputs: &[Name], text: &'a [u8]) -> Result<(Expr, &'a [u8]), SmallError>
+fn read_min<'a>(
+    alloc: Global,
+    inputs: &[Name],
+    text: &'a [u8],
+) -> Result<(Expr, &'a [u8]), SmallError>
     requires { length inputs.now ≤ 64 }
     ensures value { Gives (λ x. (formula x.0, x.1.now)) result (min_at inputs.now text.now) }
     ensures small { IfOk result (λ x. IsSmallOver (length inputs.now) (formula x.0)) }
@@ -117,8 +122,13 @@ fn is_call(text: &[u8]) -> bool
     }
 }
 
+/// The body of an output, of which each input is one of `inputs`, and what follows it.
 #[tactic(auto, unfolding(crate::specs::Candidate::body_at))]
-fn read_body<'a>(alloc: Global, inputs: &[Name], text: &'a [u8]) -> Result<(Expr, &'a [u8]), SmallError>
+fn read_body<'a>(
+    alloc: Global,
+    inputs: &[Name],
+    text: &'a [u8],
+) -> Result<(Expr, &'a [u8]), SmallError>
     requires { length inputs.now ≤ 64 }
     ensures value { Gives (λ x. (formula x.0, x.1.now)) result (body_at inputs.now text.now) }
     ensures small { IfOk result (λ x. IsSmallOver (length inputs.now) (formula x.0)) }
@@ -132,7 +142,11 @@ fn read_body<'a>(alloc: Global, inputs: &[Name], text: &'a [u8]) -> Result<(Expr
 
 /// The output whose line stands at the front, and what follows the line.
 #[tactic(auto, unfolding(crate::specs::Candidate::output_at))]
-pub fn read_output<'a>(alloc: Global, inputs: &[Name], text: &'a [u8]) -> Result<(Binding, &'a [u8]), SmallError>
+pub fn read_output<'a>(
+    alloc: Global,
+    inputs: &[Name],
+    text: &'a [u8],
+) -> Result<(Binding, &'a [u8]), SmallError>
     requires { length inputs.now ≤ 64 }
     ensures value { Gives (λ x. (x.0, x.1.now)) result (output_at inputs.now text.now) }
     ensures small { IfOk result (λ x. IsSmallOver (length inputs.now) x.0.body) }

@@ -1,7 +1,7 @@
-use Rattle.std.proofs.Common.{◌≡◌, ap, ◌∙◌, sym, subst, true, length}
+use Rattle.std.proofs.Common.{◌≡◌, ap, subst, true, length}
 use Rattle.std.specs.List.{AllByRecursion}
 use Rattle.net_lang.specs.Formula.{Equation}
-use Rattle.net_lang.specs.Small.{IsSmallOver, IsSmall}
+use Rattle.net_lang.specs.Small.{IsSmallOver}
 use Rattle.net_lang.specs.Candidate.{are_outputs}
 use Rattle.net_lang.proofs.SmallNetworks.{is_network, is_small}
 use Rattle.net_lang.proofs.small.read_candidate.Goals as goal

@@ -1,4 +1,4 @@
-use Rattle.std.proofs.Common.{ap, ◌∙◌, sym, arith, Some, List, [], ◌∷◌, ℕ, length-append}
+use Rattle.std.proofs.Common.{ap, sym, arith, Some, List, [], ◌∷◌, ℕ, length-append}
 use Rattle.net_lang.proofs.SmallLoop.{name_goes_on, names_stop, names_end}
 use Rattle.net_lang.specs.Candidate.{names_at}
 use Rattle.net_lang.proofs.small.read_names.Goals as goal

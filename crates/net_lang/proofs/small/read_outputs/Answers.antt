@@ -1,5 +1,4 @@
-use Rattle.std.proofs.Common.{◌≡◌, ap, ◌∙◌, sym, subst, arith, Some, List, [], ◌∷◌, ℕ, length, length-append}
-use Rattle.std.specs.List.{AllByRecursion}
+use Rattle.std.proofs.Common.{sym, arith, [], ◌∷◌, length, length-append}
 use Rattle.std.proofs.lemmas.Result.{err_from_is_err_and}
 use Rattle.net_lang.specs.Formula.{Equation}
 use Rattle.net_lang.specs.Small.{IsSmallOver}
