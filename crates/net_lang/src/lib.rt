@@ -4,6 +4,8 @@
 mod ast;
 mod laws;
 mod print;
+#[cfg(test)]
+mod print_tests;
 mod small;
 mod small_error;
 mod small_names;
