@@ -1,0 +1,3 @@
+pub mod SmallLoop
+pub mod SmallNetworks
+pub mod SmallAgain

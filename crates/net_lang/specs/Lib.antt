@@ -4,3 +4,5 @@ pub mod Code
 pub mod Rules
 pub mod Value
 pub mod Text
+pub mod Small
+pub mod Candidate
