@@ -1,0 +1,11 @@
+pub mod Counts
+pub mod Ranges
+pub mod PortNames
+pub mod Netlists
+pub mod Times
+pub mod Risen
+pub mod Generic
+pub mod PlainForm
+pub mod Order
+pub mod Validity
+pub mod Fitting

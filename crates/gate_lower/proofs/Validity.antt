@@ -1,0 +1,221 @@
+-- The module of the plain form is valid.
+use Rattle.std.proofs.Common.{◌≡◌, ℕ, zero, suc, ◌+◌, ◌-◌, ◌<◌, ◌≤◌, Bool, true, false, List, [], ◌∷◌, ◌++◌, length, get_or, map, take, refl, ap, ◌∙◌, sym, subst, arith, Option, Some, None, All, zero-add, length-append, append_assoc}
+use Rattle.std.specs.Prelude.{slice_get, sum_by, codes}
+use Rattle.std.specs.List.{AllByRecursion}
+use Rattle.std.proofs.lemmas.List.{length-map, append-nil}
+use Rattle.std.proofs.lemmas.List.Elements.{All-from_recursion}
+use Rattle.std.proofs.lemmas.List.Sums.{sum_by-cons}
+use Rattle.verilog_text.specs.Circuit.{Logic, Circuit, Assignment, Register, register_bits}
+use Rattle.verilog_text.specs.Circuit as b
+use Rattle.verilog_text.specs.Names.{numbered, numbered_name}
+use Rattle.verilog_text.specs.Valid.{HasBit, IsInRange, IsValid}
+use Rattle.verilog_text.proofs.Numbered.{length-numbered, numbered_names}
+use Rattle.gate_lower.specs.declared.gates.Line.{Line}
+use Rattle.gate_lower.specs.declared.gates.Line.TheVariants as line
+use Rattle.gate_lower.specs.declared.gates.Gate.{Gate}
+use Rattle.gate_lower.specs.declared.gates.Gate.TheVariants as gate
+use Rattle.gate_lower.specs.declared.gates.Delay.{Delay}
+use Rattle.gate_lower.specs.Netlist.{Output, Netlist}
+use Rattle.gate_lower.specs.Rules.{latch_bits, delay_bits, held_bits, IsLine, HasLines, IsNetlist, output_names}
+use Rattle.gate_lower.specs.Plain.{operand, gate_logic, first_registers, plain_tap, register_name, chain, delay_registers, latch_register, latch_registers, gate_assigns, output_assigns, plain_module}
+use Rattle.gate_lower.proofs.Generic.{some_is}
+use Rattle.gate_lower.proofs.PlainForm.{first_register_at, length_chain, length_delay_registers, length_latch_registers}
+use Rattle.gate_lower.proofs.Order.{is_ordered}
+
+-- each register has one bit
+abbrev IsBit : Register → Type 0
+IsBit r = r.width ≡ 1
+
+module _ (P : Register → Type 0) where
+  both : (xs ys : List Register) → AllByRecursion P xs → AllByRecursion P ys → AllByRecursion P (xs ++ ys)
+  both [] ys f g = g
+  both (x ∷ xs) ys f g = (f.0, both xs ys f.1 g)
+
+  at_place : (xs : List Register) (i : ℕ) (x : Register) → AllByRecursion P xs → slice_get xs i ≡ Some x → P x
+  at_place [] i x h e = absurd (cc)
+  at_place (y ∷ xs) zero x h e = subst P (some_is y x e) h.0
+  at_place (y ∷ xs) (suc i) x h e = at_place xs i x h.1 e
+
+chain_bits : (h : ℕ) (feed : Logic) (w : ℕ) → AllByRecursion IsBit (chain h feed w)
+chain_bits h feed zero = tt
+chain_bits h feed (suc w) = (refl, chain_bits (suc h) (b.Reg h 0) w)
+
+delay_register_bits : (tap : ℕ → ℕ → Logic) (h : ℕ) (ds : List Delay) → AllByRecursion IsBit (delay_registers tap h ds)
+delay_register_bits tap h [] = tt
+delay_register_bits tap h (d ∷ ds) = both IsBit (chain h (operand tap d.from) d.width) (delay_registers tap (h + d.width) ds) (chain_bits h (operand tap d.from) d.width) (delay_register_bits tap (h + d.width) ds)
+
+latch_register_bits : (k h : ℕ) (qs : List Gate) → AllByRecursion IsBit (latch_registers k h qs)
+latch_register_bits k h [] = tt
+latch_register_bits k h (gate.Or p q ∷ qs) = latch_register_bits (suc k) (h + 0) qs
+latch_register_bits k h (gate.And p q ∷ qs) = latch_register_bits (suc k) (h + 0) qs
+latch_register_bits k h (gate.Latch p q ∷ qs) = (refl, latch_register_bits (suc k) (h + 1) qs)
+
+count_bits : (rs : List Register) → AllByRecursion IsBit rs → sum_by (λ r. r.width) rs ≡ length rs
+count_bits [] h = refl
+count_bits (r ∷ rs) h = omega (arith, sum_by-cons (λ (z : Register). z.width) r rs, h.0, count_bits rs h.1)
+
+wide_enough : (rs : List Register) → AllByRecursion IsBit rs → AllByRecursion (λ r. 1 ≤ r.width) rs
+wide_enough [] h = tt
+wide_enough (r ∷ rs) h = (omega (arith, h.0), wide_enough rs h.1)
+
+-- a place of such registers is a bit
+bit_there : (rs : List Register) (r : ℕ) → AllByRecursion IsBit rs → r < length rs → HasBit (slice_get rs r) 0
+bit_there [] r h lt = absurd (omega arith)
+bit_there (x ∷ rs) zero h lt = omega (arith, h.0)
+bit_there (x ∷ rs) (suc r) h lt = bit_there rs r h.1 (omega arith)
+
+-- the names of w registers from h on
+abbrev names_from : ℕ → ℕ → List (List ℕ)
+names_from h zero = []
+names_from h (suc w) = register_name h ∷ names_from (suc h) w
+
+names_join : (h v w : ℕ) → names_from h (v + w) ≡ names_from h v ++ names_from (h + v) w
+names_join h zero w =
+    let a : 0 + w ≡ w = omega arith in
+    let c : h ≡ h + 0 = omega arith in
+    ap (names_from h) a ∙ ap (λ z. names_from z w) c
+names_join h (suc v) w =
+    let a : suc v + w ≡ suc (v + w) = omega arith in
+    let c : suc h + v ≡ h + suc v = omega arith in
+    ap (names_from h) a ∙ (ap (λ z. register_name h ∷ z) (names_join (suc h) v w) ∙ ap (λ z. register_name h ∷ (names_from (suc h) v ++ names_from z w)) c)
+
+numbered_from : (n : ℕ) → names_from 0 n ≡ numbered (codes "r") n
+numbered_from zero = refl
+numbered_from (suc n) =
+    let a : suc n ≡ n + 1 = omega arith in
+    let c : 0 + n ≡ n = omega arith in
+    ap (names_from 0) a ∙ (names_join 0 n 1 ∙ (ap (λ z. z ++ names_from (0 + n) 1) (numbered_from n) ∙ ap (λ z. numbered (codes "r") n ++ register_name z ∷ []) c))
+
+map-append : (xs ys : List Register) → map (λ r. r.name) (xs ++ ys) ≡ map (λ r. r.name) xs ++ map (λ r. r.name) ys
+map-append [] ys = refl
+map-append (x ∷ xs) ys = ap (λ z. x.name ∷ z) (map-append xs ys)
+
+chain_names : (h : ℕ) (feed : Logic) (w : ℕ) → map (λ r. r.name) (chain h feed w) ≡ names_from h w
+chain_names h feed zero = refl
+chain_names h feed (suc w) = ap (λ z. register_name h ∷ z) (chain_names (suc h) (b.Reg h 0) w)
+
+delay_register_names : (tap : ℕ → ℕ → Logic) (h : ℕ) (ds : List Delay) → map (λ r. r.name) (delay_registers tap h ds) ≡ names_from h (delay_bits ds)
+delay_register_names tap h [] = refl
+delay_register_names tap h (d ∷ ds) =
+    map-append (chain h (operand tap d.from) d.width) (delay_registers tap (h + d.width) ds)
+    ∙ (ap (λ z. z ++ map (λ (r : Register). r.name) (delay_registers tap (h + d.width) ds)) (chain_names h (operand tap d.from) d.width)
+    ∙ (ap (λ z. names_from h d.width ++ z) (delay_register_names tap (h + d.width) ds) ∙ sym (names_join h d.width (delay_bits ds))))
+
+latch_register_names : (k h : ℕ) (qs : List Gate) → map (λ r. r.name) (latch_registers k h qs) ≡ names_from h (held_bits qs)
+latch_register_names k h [] = refl
+latch_register_names k h (gate.Or p q ∷ qs) =
+    let a : h + 0 ≡ h = omega arith in
+    let c : held_bits qs ≡ 0 + held_bits qs = omega arith in
+    latch_register_names (suc k) (h + 0) qs ∙ (ap (λ z. names_from z (held_bits qs)) a ∙ ap (names_from h) c)
+latch_register_names k h (gate.And p q ∷ qs) =
+    let a : h + 0 ≡ h = omega arith in
+    let c : held_bits qs ≡ 0 + held_bits qs = omega arith in
+    latch_register_names (suc k) (h + 0) qs ∙ (ap (λ z. names_from z (held_bits qs)) a ∙ ap (names_from h) c)
+latch_register_names k h (gate.Latch p q ∷ qs) =
+    let a : h + 1 ≡ suc h = omega arith in
+    let c : suc (held_bits qs) ≡ 1 + held_bits qs = omega arith in
+    ap (λ z. register_name h ∷ z) (latch_register_names (suc k) (h + 1) qs ∙ ap (λ z. names_from z (held_bits qs)) a) ∙ ap (names_from h) c
+
+-- a tap is one of the delays' bits
+tap_within : (ds : List Delay) (n c : ℕ) (d : Delay) → slice_get ds n ≡ Some d → 1 ≤ c → c ≤ d.width → delay_bits (take n ds) + (c - 1) < delay_bits ds
+tap_within [] n c d e low high = absurd (cc)
+tap_within (p ∷ ds) zero c d e low high = let same : p.width ≡ d.width = ap (λ (z : Delay). z.width) (some_is p d e) in omega arith
+tap_within (p ∷ ds) (suc n) c d e low high = omega (arith, tap_within ds n c d e low high)
+
+module _ (g : Netlist) (ok : IsNetlist g) where
+  abbrev m : Circuit
+  m = plain_module g
+
+  abbrev tap : ℕ → ℕ → Logic
+  tap = plain_tap g.delays
+
+  abbrev first : ℕ
+  first = delay_bits g.delays
+
+  all_bits : AllByRecursion IsBit m.regs
+  all_bits = both IsBit (delay_registers tap 0 g.delays) (latch_registers 0 first g.gates) (delay_register_bits tap 0 g.delays) (latch_register_bits 0 first g.gates)
+
+  register_count : length m.regs ≡ first + held_bits g.gates
+  register_count = omega (arith, length-append (delay_registers tap 0 g.delays) (latch_registers 0 first g.gates), length_delay_registers tap 0 g.delays, length_latch_registers 0 first g.gates)
+
+  wire_count : length m.wires ≡ length g.gates
+  wire_count = length-numbered (codes "w") (length g.gates)
+
+  register_there : (r : ℕ) → r < first + held_bits g.gates → IsInRange m (b.Reg r 0)
+  register_there r lt = bit_there m.regs r all_bits (omega (arith, register_count))
+
+  operand_there : (k : ℕ) (l : Line) → k ≤ length g.gates → IsLine g k l → IsInRange m (operand tap l)
+  operand_there k line.Low le h = tt
+  operand_there k (line.Input i) le h = h
+  operand_there k (line.Gate j) le h = omega (arith, wire_count)
+  operand_there k (line.Tap n c) le h = register_there (get_or (first_registers 0 g.delays) n 0 + (c - 1)) (omega (arith, tap_within g.delays n c h.0 h.1 h.2 h.3, first_register_at 0 g.delays n h.0 h.1))
+
+  gate_there : (k h : ℕ) (q : Gate) → k ≤ length g.gates → h + latch_bits q ≤ first + held_bits g.gates → HasLines g k q → IsInRange m (gate_logic tap (b.Reg h 0) q)
+  gate_there k h (gate.Or p q) le few e = (operand_there k p le e.0, operand_there k q le e.1)
+  gate_there k h (gate.And p q) le few e = (operand_there k p le e.0, operand_there k q le e.1)
+  gate_there k h (gate.Latch p q) le few e = (register_there h (omega arith), (operand_there k p le e.0, operand_there k q le e.1))
+
+  -- the gates of the list from number k on
+  abbrev AreGatesFrom : ℕ → List Gate → Type 0
+  AreGatesFrom k qs = (i : ℕ) (q : Gate) → slice_get qs i ≡ Some q → HasLines g (k + i) q
+
+  assigns_there : (k h : ℕ) (qs : List Gate) → k + length qs ≤ length g.gates → h + held_bits qs ≤ first + held_bits g.gates → AreGatesFrom k qs → AllByRecursion (λ a. IsInRange m a.bit) (gate_assigns tap k h qs)
+  assigns_there k h [] le few ls = tt
+  assigns_there k h (q ∷ qs) le few ls =
+      let same : k + 0 ≡ k = omega arith in
+      (gate_there k h q (omega arith) (omega arith) (subst (λ z. HasLines g z q) same (ls 0 q refl)),
+      assigns_there (suc k) (h + latch_bits q) qs (omega arith) (omega arith) (λ i z e. let n : k + suc i ≡ suc k + i = omega arith in subst (λ y. HasLines g y z) n (ls (suc i) z e)))
+
+  outputs_there : (o : ℕ) (ls : List Output) → ((i : ℕ) (l : Output) → slice_get ls i ≡ Some l → IsLine g (length g.gates) l.line) → AllByRecursion (λ a. IsInRange m a.bit) (output_assigns tap o ls)
+  outputs_there o [] h = tt
+  outputs_there o (l ∷ ls) h = (operand_there (length g.gates) l.line (omega arith) (h 0 l refl), outputs_there (suc o) ls (λ i z e. h (suc i) z e))
+
+  both_assigns : (xs ys : List Assignment) → AllByRecursion (λ a. IsInRange m a.bit) xs → AllByRecursion (λ a. IsInRange m a.bit) ys → AllByRecursion (λ a. IsInRange m a.bit) (xs ++ ys)
+  both_assigns [] ys f e = e
+  both_assigns (x ∷ xs) ys f e = (f.0, both_assigns xs ys f.1 e)
+
+  chain_there : (h : ℕ) (feed : Logic) (w : ℕ) → h + w ≤ first → IsInRange m feed → AllByRecursion (λ r. IsInRange m r.next) (chain h feed w)
+  chain_there h feed zero few e = tt
+  chain_there h feed (suc w) few e = (e, chain_there (suc h) (b.Reg h 0) w (omega arith) (register_there h (omega arith)))
+
+  delays_there : (h : ℕ) (ds : List Delay) → h + delay_bits ds ≤ first → ((i : ℕ) (d : Delay) → slice_get ds i ≡ Some d → IsLine g (length g.gates) d.from) → AllByRecursion (λ r. IsInRange m r.next) (delay_registers tap h ds)
+  delays_there h [] few e = tt
+  delays_there h (d ∷ ds) few e =
+      both (λ r. IsInRange m r.next) (chain h (operand tap d.from) d.width) (delay_registers tap (h + d.width) ds)
+      (chain_there h (operand tap d.from) d.width (omega arith) (operand_there (length g.gates) d.from (omega arith) (e 0 d refl)))
+      (delays_there (h + d.width) ds (omega arith) (λ i z y. e (suc i) z y))
+
+  latches_there : (k h : ℕ) (qs : List Gate) → k + length qs ≤ length g.gates → AllByRecursion (λ r. IsInRange m r.next) (latch_registers k h qs)
+  latches_there k h [] le = tt
+  latches_there k h (gate.Or p q ∷ qs) le = latches_there (suc k) (h + 0) qs (omega arith)
+  latches_there k h (gate.And p q ∷ qs) le = latches_there (suc k) (h + 0) qs (omega arith)
+  latches_there k h (gate.Latch p q ∷ qs) le = (omega (arith, wire_count), latches_there (suc k) (h + 1) qs (omega arith))
+
+  names : map (λ r. r.name) m.regs ≡ numbered (codes "r") (first + held_bits g.gates)
+  names =
+      map-append (delay_registers tap 0 g.delays) (latch_registers 0 first g.gates)
+      ∙ (ap (λ z. z ++ map (λ (r : Register). r.name) (latch_registers 0 first g.gates)) (delay_register_names tap 0 g.delays)
+      ∙ (ap (λ z. names_from 0 first ++ z) (latch_register_names 0 first g.gates)
+      ∙ (ap (λ z. names_from 0 first ++ names_from z (held_bits g.gates)) (sym (zero-add first))
+      ∙ (sym (names_join 0 first (held_bits g.gates)) ∙ numbered_from (first + held_bits g.gates)))))
+
+  pub is_valid : IsValid m
+  is_valid = record {
+    some_input = ok.some_input;
+    few_inputs = ok.few_inputs;
+    some_output = omega (arith, length-map g.outputs (λ (o : Output). o.name), ok.some_output);
+    few_outputs = omega (arith, length-map g.outputs (λ (o : Output). o.name), ok.few_outputs);
+    few_wires = omega (arith, wire_count, ok.few_gates);
+    few_bits = omega (arith, count_bits m.regs all_bits, register_count, ok.few_bits);
+    widths = All-from_recursion (λ (r : Register). 1 ≤ r.width) m.regs (wide_enough m.regs all_bits);
+    names = numbered_names m (length g.gates) (first + held_bits g.gates) (omega (arith, ok.few_gates)) (omega (arith, ok.few_bits)) refl names
+        ok.good_input_names ok.good_output_names ok.distinct_inputs ok.distinct_outputs;
+    assigned_in_range = All-from_recursion (λ (a : Assignment). IsInRange m a.bit) m.assigns
+        (both_assigns (gate_assigns tap 0 first g.gates) (output_assigns tap 0 g.outputs)
+        (assigns_there 0 first g.gates (omega arith) (omega arith) (λ i q e. subst (λ z. HasLines g z q) (sym (zero-add i)) (ok.gates i q e)))
+        (outputs_there 0 g.outputs ok.outputs));
+    next_in_range = All-from_recursion (λ (r : Register). IsInRange m r.next) m.regs
+        (both (λ r. IsInRange m r.next) (delay_registers tap 0 g.delays) (latch_registers 0 first g.gates)
+        (delays_there 0 g.delays (omega arith) ok.delays) (latches_there 0 first g.gates (omega arith)));
+    ordered = is_ordered g ok;
+  }

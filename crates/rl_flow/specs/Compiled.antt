@@ -1,0 +1,37 @@
+-- What it is to compile a network rightly.
+use Rattle.std.specs.Prelude.{◌≡◌, ℕ, List, map}
+use Rattle.rl_time.specs.declared.time.Time.{Time}
+use Rattle.net_lang.specs.Formula.{Net}
+use Rattle.net_lang.specs.Rules.{names_of}
+use Rattle.net_lang.specs.Small.{IsSmallText}
+use Rattle.net_lang.specs.Value.{space_time_function}
+use Rattle.verilog_text.specs.Circuit.{Circuit}
+use Rattle.verilog_text.specs.Meaning.{State, IsHistory, HasOneHistory, levels_from}
+use Rattle.verilog_text.specs.Text.{module_text}
+use Rattle.gate_lower.specs.Plain.{plain_module}
+use Rattle.gate_lower.specs.Written.{written_netlist}
+
+-- The module does what the network says. Its ports have the network's names, in order. For all input times and every number of
+-- cycles after reset it has exactly one history, and in it the outputs have in each cycle the levels of wires that rise at the
+-- times of the network's space-time function: output k is high in cycle t exactly where the value of output k is at most t.
+pub record Realises (n : Net) (m : Circuit) : Type 0 where
+  pub inputs : m.inputs ≡ n.inputs
+  pub outputs : m.outputs ≡ names_of n.outputs
+  pub one_history : (x : List Time) (cycles : ℕ) → HasOneHistory m (levels_from x 0 cycles)
+  pub levels : (x : List Time) (cycles : ℕ) (states : List State) → IsHistory m (levels_from x 0 cycles) states →
+      map (λ s. s.outs) states ≡ levels_from (space_time_function n x) 0 cycles
+
+-- the module of a network: its gates as they are written, in the plain form of registers
+abbrev pub compiled_module : Net → Circuit
+compiled_module n = plain_module (written_netlist n)
+
+-- the bytes are a small text of a network, and the text is that of its module, which does what the network says
+pub record IsModuleText (bytes text : List ℕ) : Type 0 where
+  pub network : Net
+  pub read : IsSmallText bytes network
+  pub written : text ≡ module_text (compiled_module network)
+  pub right : Realises network (compiled_module network)
+
+-- no network that can be compiled has this text
+abbrev pub IsOther : List ℕ → Type 0
+IsOther bytes = (n : Net) → IsSmallText bytes n → ⊥

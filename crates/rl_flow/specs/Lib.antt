@@ -1,0 +1,5 @@
+pub mod Status
+pub mod Words
+pub mod Refusal
+pub mod Compiled
+pub mod Answers

@@ -1,0 +1,41 @@
+ghost use Rattle.std.specs.Prelude.{◌≡◌};
+ghost use Rattle.rl_flow.specs.Status.{code_of};
+
+/// How a run ends.
+#[derive(Clone, Copy, Debug, PartialEq, Eq)]
+pub enum Status {
+    /// Done, equal, or accepted.
+    Done,
+    /// Different, or a tree is refused.
+    No,
+    /// The words are none of the program's.
+    Words,
+    /// The input is refused.
+    Refused,
+    /// A file of the command could not be read.
+    ReadFault,
+    /// Standard output failed.
+    WriteFault,
+    /// Memory ran out.
+    NoMemory,
+    /// The budget of case nodes is spent.
+    Undecided,
+}
+
+impl Status {
+    /// The number with which the process ends.
+    pub fn code(&self) -> u8
+        ensures { result ≡ code_of self.now }
+    {
+        match self {
+            Status::Done => 0,
+            Status::No => 1,
+            Status::Words => 2,
+            Status::Refused => 3,
+            Status::ReadFault => 4,
+            Status::WriteFault => 5,
+            Status::NoMemory => 6,
+            Status::Undecided => 7,
+        }
+    }
+}
