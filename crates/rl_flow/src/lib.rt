@@ -5,10 +5,11 @@ mod command;
 mod compile;
 mod refusal;
 mod running;
-
 mod status;
 
 pub use refusal::Refusal;
 pub use running::run;
-
 pub use status::Status;
+
+#[cfg(test)]
+mod tests;

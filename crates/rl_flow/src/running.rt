@@ -24,6 +24,7 @@ const LIMIT: u64 = 1048576;
 /// The bytes of a file of the command.
 fn load_file<S: Shelf>(alloc: Global, shelf: &mut S, file: &str) -> Result<Vec<u8>, Refusal>
     ensures kept { S.contents shelf.new ≡ S.contents shelf.old }
+    ensures shelf_planned { S.plan shelf.new ≡ S.plan shelf.old }
     ensures later { (n : List ℕ) → S.faults shelf.old n ≤ S.faults shelf.new n }
     ensures whole { IfOk result (λ bytes. (length bytes.items ≤ limit) × OnFile (S.contents shelf.old) file.now (λ told. told ≡ bytes.items)) }
     ensures cause { IfErr result (HasCause (Some file.now) (S.contents shelf.old) (λ f. Rose (S.faults shelf.old f) (S.faults shelf.new f)) (RoseBy limit (S.given shelf.old) (S.given shelf.new)) ⊥) }
@@ -39,6 +40,7 @@ fn load_file<S: Shelf>(alloc: Global, shelf: &mut S, file: &str) -> Result<Vec<u
 /// The text of the module of a file.
 fn compile<S: Shelf>(alloc: Global, shelf: &mut S, file: &str) -> Result<Vec<u8>, Refusal>
     ensures kept { S.contents shelf.new ≡ S.contents shelf.old }
+    ensures shelf_planned { S.plan shelf.new ≡ S.plan shelf.old }
     ensures later { (n : List ℕ) → S.faults shelf.old n ≤ S.faults shelf.new n }
     ensures text { IfOk result (λ text. IsCompiled (S.contents shelf.old) file.now text.items) }
     ensures cause { IfErr result (HasCause (Some file.now) (S.contents shelf.old) (λ f. Rose (S.faults shelf.old f) (S.faults shelf.new f)) (RoseBy limit (S.given shelf.old) (S.given shelf.new)) ⊥) }
@@ -55,6 +57,8 @@ fn act<S: Shelf, K: Sink>(
     out: &mut K,
 ) -> Result<(), Refusal>
     ensures kept { S.contents shelf.new ≡ S.contents shelf.old }
+    ensures out_planned { K.plan out.new ≡ K.plan out.old }
+    ensures shelf_planned { S.plan shelf.new ≡ S.plan shelf.old }
     ensures later { (n : List ℕ) → S.faults shelf.old n ≤ S.faults shelf.new n }
     ensures done { OnOk result (IsSomeAnd (compiled_file (texts_of words.now)) (Compiles (S.contents shelf.old) (K.written out.old) (K.written out.new))) }
     ensures cause { IfErr result (HasCause (compiled_file (texts_of words.now)) (S.contents shelf.old) (λ f. Rose (S.faults shelf.old f) (S.faults shelf.new f)) (RoseBy limit (S.given shelf.old) (S.given shelf.new)) (Rose (K.faults out.old) (K.faults out.new))) }
@@ -99,8 +103,11 @@ pub fn run<S: Shelf, K: Sink>(
     ensures complete { (file bytes : List ℕ) (n : Net) → compiled_file (texts_of words.now) ≡ Some file → Tells (S.contents shelf.old) file bytes → length bytes ≤ limit → IsSmallText bytes n →
         (Rose (S.faults shelf.old file) (S.faults shelf.new file) → ⊥) → (Rose (K.faults out.old) (K.faults out.new) → ⊥) → (result ≡ Status.Done) ⊎ (result ≡ Status.NoMemory) }
 
-    // The shelf keeps its files, and counts of faults never fall.
+    // The shelf keeps its files, counts of faults never fall, and what the outside tells of the calls that fail stays as it is.
     ensures kept { S.contents shelf.new ≡ S.contents shelf.old }
+    ensures out_planned { K.plan out.new ≡ K.plan out.old }
+    ensures err_planned { K.plan err.new ≡ K.plan err.old }
+    ensures shelf_planned { S.plan shelf.new ≡ S.plan shelf.old }
     ensures later { (n : List ℕ) → S.faults shelf.old n ≤ S.faults shelf.new n }
 {
     match act(alloc, words, shelf, out) {
