@@ -174,8 +174,13 @@ short_before done (e ∷ es) h = short_front done (span done e.body ∷ []) (sho
 lets_bound : (done : List ℕ) (es : List Equation) → Short (spans_after done es) → equation_bits es ≤ sum_by (λ e. joins e.body) es + sum_by (λ e. delays e.body) es * 1000000
 lets_bound done [] h = omega arith
 lets_bound done (e ∷ es) h =
-    omega (arith, bits_bound done e.body (short_last done (span done e.body) (short_before (done ++ span done e.body ∷ []) es h)), lets_bound (done ++ span done e.body ∷ []) es h,
-        sum_by-cons (λ (x : Equation). joins x.body) e es, sum_by-cons (λ (x : Equation). delays x.body) e es)
+    omega (
+      arith,
+      bits_bound done e.body (short_last done (span done e.body) (short_before (done ++ span done e.body ∷ []) es h)),
+      lets_bound (done ++ span done e.body ∷ []) es h,
+      sum_by-cons (λ (x : Equation). joins x.body) e es,
+      sum_by-cons (λ (x : Equation). delays x.body) e es,
+    )
 
 outputs_bound : (lets : List ℕ) (es : List Equation) → Short (map (λ e. span lets e.body) es) → equation_bits es ≤ sum_by (λ e. joins e.body) es + sum_by (λ e. delays e.body) es * 1000000
 outputs_bound lets [] h = omega arith
@@ -185,8 +190,15 @@ outputs_bound lets (e ∷ es) h =
 -- no sum of register bits overflows
 pub bits_fit : (n : Net) → IsNetwork n → equation_bits n.lets + equation_bits n.outputs < 2 ^ 64
 bits_fit n rules =
-    omega (arith, lets_bound [] n.lets rules.short_lets, outputs_bound (let_spans n.lets) n.outputs rules.short_outputs, rules.few_joins, rules.few_delays,
-        sum_by-append (λ (e : Equation). joins e.body) n.lets n.outputs, sum_by-append (λ (e : Equation). delays e.body) n.lets n.outputs)
+    omega (
+      arith,
+      lets_bound [] n.lets rules.short_lets,
+      outputs_bound (let_spans n.lets) n.outputs rules.short_outputs,
+      rules.few_joins,
+      rules.few_delays,
+      sum_by-append (λ (e : Equation). joins e.body) n.lets n.outputs,
+      sum_by-append (λ (e : Equation). delays e.body) n.lets n.outputs,
+    )
 
 -- what is left to write after the lets has room
 pub record HasRoom (n : Net) (gates : List Gate) (delays : List Delay) : Type 0 where

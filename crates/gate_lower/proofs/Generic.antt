@@ -185,4 +185,3 @@ module _ (g : Netlist) (ok : IsNetlist g) (m : Circuit) (tap : ℕ → ℕ → L
 -- the central lemma
 pub realised : (g : Netlist) → IsNetlist g → (m : Circuit) (tap : ℕ → ℕ → Logic) (held : ℕ → Logic) → Realises g m tap held → TimeIsLevel g m
 realised g ok m tap held real x gt dt tm n ss h t z e = history_right g ok m tap held real x gt dt tm n ss h t z e
-

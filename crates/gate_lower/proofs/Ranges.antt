@@ -160,10 +160,10 @@ module _ (inputs : ℕ) (lets : List Line) (k n : ℕ) (ds : List Delay) (a b : 
 
 inc_in_range : (inputs : ℕ) (lets : List Line) (k n c : ℕ) (ds : List Delay) (a : Formula) (none : Bool) → none ≡ nat_eq c 0 → n ≡ length ds → InRange inputs lets k n ds a →
     (IsLineOf inputs (k + joins a) (ds ++ (if none then delays_of lets k n a else delays_of lets k n a ++ record { from = line_of lets k n a; width = c } ∷ []))
-      (if none then line_of lets k n a else line.Tap (n + true_delays a) c))
+    (if none then line_of lets k n a else line.Tap (n + true_delays a) c))
     × AreGates inputs k (ds ++ (if none then delays_of lets k n a else delays_of lets k n a ++ record { from = line_of lets k n a; width = c } ∷ [])) (gates_of lets k n a)
     × AreFed inputs (k + joins a) (ds ++ (if none then delays_of lets k n a else delays_of lets k n a ++ record { from = line_of lets k n a; width = c } ∷ []))
-      (if none then delays_of lets k n a else delays_of lets k n a ++ record { from = line_of lets k n a; width = c } ∷ [])
+    (if none then delays_of lets k n a else delays_of lets k n a ++ record { from = line_of lets k n a; width = c } ∷ [])
 inc_in_range inputs lets k n c ds a true e len f = (f.line, f.gates, f.fed)
 inc_in_range inputs lets k n c ds a false e len f =
     let d : Delay = record { from = line_of lets k n a; width = c } in
@@ -171,12 +171,13 @@ inc_in_range inputs lets k n c ds a false e len f =
     let assoc : (ds ++ D) ++ d ∷ [] ≡ ds ++ (D ++ d ∷ []) = append_assoc ds D (d ∷ []) in
     let some : 1 ≤ c = not_zero c (sym e) in
     let index : n + true_delays a ≡ length (ds ++ D) + 0 = omega (arith, length-append ds D, length_delays_of lets k n a) in
-    let there : slice_get ((ds ++ D) ++ d ∷ []) (n + true_delays a) ≡ Some d = ap (slice_get ((ds ++ D) ++ d ∷ [])) index ∙ get_right (ds ++ D) (d ∷ []) 0 in
-    (subst (λ z. IsLineOf inputs (k + joins a) z (line.Tap (n + true_delays a) c)) assoc (d, there, some, omega arith),
-    subst (λ z. AreGates inputs k z (gates_of lets k n a)) assoc (gates_more inputs k (ds ++ D) (d ∷ []) (gates_of lets k n a) f.gates),
-    subst (λ z. AreFed inputs (k + joins a) z (D ++ d ∷ [])) assoc
-    (fed_join inputs (k + joins a) ((ds ++ D) ++ d ∷ []) D (d ∷ []) (fed_more inputs (k + joins a) (k + joins a) (ds ++ D) (d ∷ []) D (omega arith) f.fed)
-    ((line_more inputs (k + joins a) (k + joins a) (ds ++ D) (d ∷ []) (line_of lets k n a) (omega arith) f.line, some), tt)))
+    let there : slice_get ((ds ++ D) ++ d ∷ []) (n + true_delays a) ≡ Some d = ap (slice_get ((ds ++ D) ++ d ∷ [])) index ∙ get_right (ds ++ D) (d ∷ []) 0 in (
+      subst (λ z. IsLineOf inputs (k + joins a) z (line.Tap (n + true_delays a) c)) assoc (d, there, some, omega arith),
+      subst (λ z. AreGates inputs k z (gates_of lets k n a)) assoc (gates_more inputs k (ds ++ D) (d ∷ []) (gates_of lets k n a) f.gates),
+      subst (λ z. AreFed inputs (k + joins a) z (D ++ d ∷ [])) assoc
+          (fed_join inputs (k + joins a) ((ds ++ D) ++ d ∷ []) D (d ∷ []) (fed_more inputs (k + joins a) (k + joins a) (ds ++ D) (d ∷ []) D (omega arith) f.fed)
+          ((line_more inputs (k + joins a) (k + joins a) (ds ++ D) (d ∷ []) (line_of lets k n a) (omega arith) f.line, some), tt)),
+    )
 
 nothing_in_range : (inputs : ℕ) (lets : List Line) (k n : ℕ) (ds : List Delay) (t : Formula) → gates_of lets k n t ≡ [] → delays_of lets k n t ≡ [] → joins t ≡ 0 → IsLineOf inputs k ds (line_of lets k n t) → InRange inputs lets k n ds t
 nothing_in_range inputs lets k n ds t g d j h =

@@ -24,10 +24,6 @@ use Rattle.gate_lower.proofs.Counts.{length_gates_of, length_delays_of, one_line
 use Rattle.gate_lower.proofs.Netlists.{names_are}
 use Rattle.gate_lower.proofs.Risen.{time_inc-zero}
 
-
-
-
-
 -- the times of a formula's gates, in order
 abbrev gate_times : List Time → List Time → Formula → List Time
 gate_times x lets Never = []
@@ -207,9 +203,10 @@ module _ (x : List Time) (gt dt : ℕ → Time) where
         let z : c ≡ 0 = eqb-true c 0 (sym e) in
         (f.line ∙ (sym (time_inc-zero (value x lv a)) ∙ ap (time_inc (value x lv a)) (sym z)), f.delays)
     inc_timed k n c a false e f h =
-        let last : dt (n + true_delays a) ≡ value x lv a = (gives_back dt n (n + true_delays a) (delay_times x lv a) (value x lv a ∷ []) (omega (arith, length_delay_times x lv a)) h).0 in
-        (ap (λ z. time_inc z c) last,
-        timed_delays_join x gt dt n (n + true_delays a) (delays_of lets k n a) (record { from = line_of lets k n a; width = c } ∷ []) (omega (arith, length_delays_of lets k n a)) f.delays (last ∙ sym f.line, tt))
+        let last : dt (n + true_delays a) ≡ value x lv a = (gives_back dt n (n + true_delays a) (delay_times x lv a) (value x lv a ∷ []) (omega (arith, length_delay_times x lv a)) h).0 in (
+          ap (λ z. time_inc z c) last,
+          timed_delays_join x gt dt n (n + true_delays a) (delays_of lets k n a) (record { from = line_of lets k n a; width = c } ∷ []) (omega (arith, length_delays_of lets k n a)) f.delays (last ∙ sym f.line, tt),
+        )
 
     inc_front : (n : ℕ) (none : Bool) (ts : List Time) (t : Time) → Gives dt n (if none then ts else ts ++ t ∷ []) → Gives dt n ts
     inc_front n true ts t h = h
@@ -354,9 +351,13 @@ gates_of_network n rules =
       timed = λ x.
           let gt = time_at (all_gate_times n x) in
           let dt = time_at (all_delay_times n x) in
-          let all = network_timed n x in
-          (gt, dt, record {
-            each_gate = λ k q e. ap gt (sym (zero-add k)) ∙ timed_gate_at x gt dt 0 w.gates all.gates k q e;
-            each_delay = λ k q e. ap dt (sym (zero-add k)) ∙ timed_delay_at x gt dt 0 w.delays all.delays k q e;
-          }, lines_have x gt dt n.outputs w.lines (space_time_function n x) count all.lines);
+          let all = network_timed n x in (
+            gt,
+            dt,
+            record {
+              each_gate = λ k q e. ap gt (sym (zero-add k)) ∙ timed_gate_at x gt dt 0 w.gates all.gates k q e;
+              each_delay = λ k q e. ap dt (sym (zero-add k)) ∙ timed_delay_at x gt dt 0 w.delays all.delays k q e;
+            },
+            lines_have x gt dt n.outputs w.lines (space_time_function n x) count all.lines,
+          );
     }

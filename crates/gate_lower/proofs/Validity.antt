@@ -162,9 +162,10 @@ module _ (g : Netlist) (ok : IsNetlist g) where
   assigns_there : (k h : ℕ) (qs : List Gate) → k + length qs ≤ length g.gates → h + held_bits qs ≤ first + held_bits g.gates → AreGatesFrom k qs → AllByRecursion (λ a. IsInRange m a.bit) (gate_assigns tap k h qs)
   assigns_there k h [] le few ls = tt
   assigns_there k h (q ∷ qs) le few ls =
-      let same : k + 0 ≡ k = omega arith in
-      (gate_there k h q (omega arith) (omega arith) (subst (λ z. HasLines g z q) same (ls 0 q refl)),
-      assigns_there (suc k) (h + latch_bits q) qs (omega arith) (omega arith) (λ i z e. let n : k + suc i ≡ suc k + i = omega arith in subst (λ y. HasLines g y z) n (ls (suc i) z e)))
+      let same : k + 0 ≡ k = omega arith in (
+        gate_there k h q (omega arith) (omega arith) (subst (λ z. HasLines g z q) same (ls 0 q refl)),
+        assigns_there (suc k) (h + latch_bits q) qs (omega arith) (omega arith) (λ i z e. let n : k + suc i ≡ suc k + i = omega arith in subst (λ y. HasLines g y z) n (ls (suc i) z e)),
+      )
 
   outputs_there : (o : ℕ) (ls : List Output) → ((i : ℕ) (l : Output) → slice_get ls i ≡ Some l → IsLine g (length g.gates) l.line) → AllByRecursion (λ a. IsInRange m a.bit) (output_assigns tap o ls)
   outputs_there o [] h = tt

@@ -75,8 +75,8 @@ output_assigns tap o (l ∷ outputs) = record { target = target.Out o; bit = ope
 abbrev pub plain_module : Netlist → Circuit
 plain_module g =
     circuit g.inputs (output_names g.outputs) (numbered (codes "w") (length g.gates))
-        (delay_registers (plain_tap g.delays) 0 g.delays ++ latch_registers 0 (delay_bits g.delays) g.gates)
-        (gate_assigns (plain_tap g.delays) 0 (delay_bits g.delays) g.gates ++ output_assigns (plain_tap g.delays) 0 g.outputs)
+    (delay_registers (plain_tap g.delays) 0 g.delays ++ latch_registers 0 (delay_bits g.delays) g.gates)
+    (gate_assigns (plain_tap g.delays) 0 (delay_bits g.delays) g.gates ++ output_assigns (plain_tap g.delays) 0 g.outputs)
 
 -- the number of a tap's register, where the line is one, is below 2 ^ 32
 abbrev pub TapFits : List ℕ → Line → Type 0

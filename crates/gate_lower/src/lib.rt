@@ -12,3 +12,6 @@ mod written;
 pub use emitting::emit;
 pub use gates::{Delay, Gate, Gates, Line, OutLine};
 pub use lower::{LowerError, lower_written};
+
+#[cfg(test)]
+mod tests;

@@ -114,10 +114,7 @@ impl Builder {
 }
 
 /// The lines of a network's outputs, and its gates and delays.
-pub fn write(
-    alloc: Global,
-    n: &Network,
-) -> Result<(Vec<Line>, Vec<Gate>, Vec<Delay>), AllocError>
+pub fn write(alloc: Global, n: &Network) -> Result<(Vec<Line>, Vec<Gate>, Vec<Delay>), AllocError>
     requires { IsNetwork n.now }
     ensures { IfOk result (λ parts. written parts.0.items parts.1.items parts.2.items ≡ written_outputs n.now) }
 {
