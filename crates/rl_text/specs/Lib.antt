@@ -1,1 +1,5 @@
 pub mod Names
+pub mod Pieces
+pub mod Tokens
+pub mod Lines
+pub mod Front

@@ -1,6 +1,13 @@
-//! Names, as every file of racelog writes them.
+//! Names and tokens, as the files of racelog write them.
 #![tactic(auto)]
 
+mod front;
+mod laws;
+mod lexer;
 mod name;
+mod token;
 
+pub use laws::{one_bad_place, one_list_of_tokens, tokens_or_bad_place};
+pub use lexer::lex;
 pub use name::Name;
+pub use token::{Kind, LexError, Style, Token};
