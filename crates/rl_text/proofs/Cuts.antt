@@ -1,6 +1,6 @@
 -- Texts that fall into pieces, taken a piece at a time.
-use Rattle.std.proofs.Common.{◌≡◌, ◌≢◌, ℕ, zero, suc, ◌+◌, ◌≤◌, ◌<◌, Bool, true, false, cond, not, inl, inr, ◌&&◌, ◌||◌, List, [], ◌∷◌, ◌++◌, length, take, drop, Option, Some, None, refl, sym, ap, subst, ◌∙◌, arith, add-one, eqb}
-use Rattle.std.specs.Prelude.{codes, count_by, sum_by, flat_map}
+use Rattle.std.proofs.Common.{◌≡◌, ◌≢◌, ℕ, ◌+◌, Bool, true, cond, inl, inr, List, [], ◌∷◌, ◌++◌, length, take, drop, Option, Some, None, refl, sym, ap, subst, ◌∙◌, arith, eqb}
+use Rattle.std.specs.Prelude.{codes, count_by}
 use Rattle.std.specs.List.{list_all, list_any, AllByRecursion}
 use Rattle.std.specs.Str.{bytes_eq}
 use Rattle.std.proofs.lemmas.List.{append-nil, append_assoc, append_cancel_left, length-append, take_at, take-append-drop, length-take-le}
@@ -32,7 +32,7 @@ same_piece s p q text l m =
     let k = same_kind p.kind q.kind (length p.bytes) (length q.bytes) e in
     let n = same_len p.kind q.kind (length p.bytes) (length q.bytes) e in
     let b : p.bytes ≡ q.bytes =
-      sym (take_at p.bytes l.begins.after (length p.bytes) refl) ∙ ap (take (length p.bytes)) (sym l.begins.split ∙ m.begins.split) ∙ take_at q.bytes m.begins.after (length p.bytes) (sym n) in
+    sym (take_at p.bytes l.begins.after (length p.bytes) refl) ∙ ap (take (length p.bytes)) (sym l.begins.split ∙ m.begins.split) ∙ take_at q.bytes m.begins.after (length p.bytes) (sym n) in
     λ i. record { kind = k i; bytes = b i }
 
 -- the text behind the first of some pieces
@@ -50,8 +50,8 @@ same_pieces s (p ∷ ps) (q ∷ qs) a b l m x y e =
     let at_front : IsLongest s q (joined (p ∷ ps) ++ a) = subst (IsLongest s q) (sym e) m.0 in
     let first : p ≡ q = same_piece s p q (joined (p ∷ ps) ++ a) l.0 at_front in
     let rest : joined ps ++ a ≡ joined qs ++ b =
-      append_cancel_left p.bytes (joined ps ++ a) (joined qs ++ b)
-        (sym (behind_first p ps a) ∙ e ∙ behind_first q qs b ∙ ap (λ (r : Piece). r.bytes ++ (joined qs ++ b)) (sym first)) in
+    append_cancel_left p.bytes (joined ps ++ a) (joined qs ++ b)
+    (sym (behind_first p ps a) ∙ e ∙ behind_first q qs b ∙ ap (λ (r : Piece). r.bytes ++ (joined qs ++ b)) (sym first)) in
     let others : ps ≡ qs = same_pieces s ps qs a b l.1 m.1 x y rest in
     λ i. first i ∷ others i
 
@@ -104,7 +104,7 @@ longest_more : (s : Style) (ps : List Piece) (p : Piece) (after : List ℕ) → 
 longest_more s [] p after l m = (rw append-nil m, tt)
 longest_more s (q ∷ ps) p after l m =
     let e : joined (q ∷ ps) ++ (p.bytes ++ after) ≡ joined (q ∷ (ps ++ p ∷ [])) ++ after =
-      sym (append_assoc (joined (q ∷ ps)) p.bytes after) ∙ ap (λ (bytes : List ℕ). bytes ++ after) (sym (joined_more (q ∷ ps) p)) in
+    sym (append_assoc (joined (q ∷ ps)) p.bytes after) ∙ ap (λ (bytes : List ℕ). bytes ++ after) (sym (joined_more (q ∷ ps) p)) in
     (subst (IsLongest s q) e l.0, longest_more s ps p after l.1 m)
 
 with_token-append : (k : Option Kind) (before bytes : List ℕ) (ts us : List Token) → with_token k before bytes (ts ++ us) ≡ with_token k before bytes ts ++ us
@@ -172,7 +172,7 @@ number_stays (b ∷ bytes) h = list_all_weaker is_digit is_comment_byte digit_st
 
 gap_stays : (bytes : List ℕ) → is_gap bytes ≡ true → list_all is_comment_byte bytes ≡ true
 gap_stays [] h = refl
-gap_stays (b ∷ []) h = elim (or_cases (is_blank b) (eqb b 35) h) [ | inl g ↦ and_from (is_comment_byte b) true (blank_stays b g) refl | inr g ↦ and_from (is_comment_byte b) true (hash_stays b g) refl ]
+gap_stays (b ∷ []) h = elim (or_cases (is_blank b) (eqb b 35) h) [ inl g ↦ and_from (is_comment_byte b) true (blank_stays b g) refl | inr g ↦ and_from (is_comment_byte b) true (hash_stays b g) refl ]
 gap_stays (b ∷ c ∷ bytes) h =
     let a = and_parts (eqb b 35) (list_all is_comment_byte (c ∷ bytes)) h in
     and_from (is_comment_byte b) (list_all is_comment_byte (c ∷ bytes)) (hash_stays b a.0) a.1
@@ -180,7 +180,7 @@ gap_stays (b ∷ c ∷ bytes) h =
 any_stays : (bytes : List ℕ) (texts : List (List ℕ)) → AllByRecursion (λ text. list_all is_comment_byte text ≡ true) texts → list_any (bytes_eq bytes) texts ≡ true → list_all is_comment_byte bytes ≡ true
 any_stays bytes [] each h = absurd cc
 any_stays bytes (first ∷ others) each h =
-    elim (one_of bytes first others h) [ | inl e ↦ rw e each.0 | inr g ↦ any_stays bytes others each.1 g ]
+    elim (one_of bytes first others h) [ inl e ↦ rw e each.0 | inr g ↦ any_stays bytes others each.1 g ]
 
 pub piece_newlines : (s : Style) (k : Option Kind) (bytes : List ℕ) → is_piece s k bytes ≡ true → count_by is_newline bytes ≡ newlines k
 piece_newlines style.Race None bytes h = no_newline bytes (gap_stays bytes h)

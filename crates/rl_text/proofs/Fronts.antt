@@ -1,9 +1,9 @@
 -- The computed front is the longest piece at the front.
-use Rattle.std.proofs.Common.{◌≡◌, ℕ, zero, suc, ◌+◌, ◌≤◌, ◌<◌, Bool, true, false, cond, ◌&&◌, ◌||◌, ◌⊎◌, inl, inr, List, [], ◌∷◌, ◌++◌, length, take, drop, Option, Some, None, refl, sym, ap, subst, ◌∙◌, arith, add-one, eqb}
+use Rattle.std.proofs.Common.{◌≡◌, ℕ, suc, ◌+◌, ◌≤◌, Bool, true, false, cond, ◌||◌, ◌⊎◌, inl, inr, List, [], ◌∷◌, ◌++◌, length, take, drop, Option, Some, None, refl, sym, ap, subst, ◌∙◌, arith, add-one, eqb}
 use Rattle.std.specs.Prelude.{codes, slice_index}
 use Rattle.std.specs.List.{prefix_len, list_all, list_any, AllByRecursion}
 use Rattle.std.specs.Str.{bytes_eq}
-use Rattle.std.proofs.lemmas.List.{take-append-drop, length-take-le, append_assoc, length-append}
+use Rattle.std.proofs.lemmas.List.{take-append-drop, length-take-le}
 use Rattle.std.proofs.lemmas.List.Sums.{prefix_len-le-length}
 use Rattle.std.proofs.lemmas.Bool.{and_parts, or_cases, eqb-true, cond_both, and_from, or_left, or_right}
 use Rattle.std.proofs.lemmas.Bool.Decides.{nat_tests}
@@ -12,8 +12,8 @@ use Rattle.rl_text.specs.declared.token.Kind.{Kind}
 use Rattle.rl_text.specs.declared.token.Kind.TheVariants as kind
 use Rattle.rl_text.specs.declared.token.Style.{Style}
 use Rattle.rl_text.specs.declared.token.Style.TheVariants as style
-use Rattle.rl_text.specs.Names.{is_letter, is_digit, is_underscore, is_name_start, is_name_byte, is_name}
-use Rattle.rl_text.specs.Pieces.{is_blank, is_newline, is_comment_byte, is_gap, is_number, symbols, is_symbol, is_token, is_piece, Piece, Begins, IsLongest}
+use Rattle.rl_text.specs.Names.{is_digit, is_name_start, is_name_byte}
+use Rattle.rl_text.specs.Pieces.{is_blank, is_newline, is_comment_byte, is_gap, symbols, is_symbol, is_piece, Piece, Begins, IsLongest}
 use Rattle.rl_text.specs.Front.{is_sign, race_front, front}
 
 -- what is computed at the front of the text is of this kind and has at least this many bytes
@@ -69,19 +69,19 @@ blank_reaches : (b : ℕ) (after : List ℕ) → is_blank b ≡ true → Reaches
 unfolding race_front
 blank_reaches b after h =
     elim (or_cases (eqb b 32 || eqb b 9) (eqb b 13) h) [
-      | inl g ↦ elim (or_cases (eqb b 32) (eqb b 9) g) [ | inl f ↦ at_byte b 32 None after f refl | inr f ↦ at_byte b 9 None after f refl ]
+      | inl g ↦ elim (or_cases (eqb b 32) (eqb b 9) g) [ inl f ↦ at_byte b 32 None after f refl | inr f ↦ at_byte b 9 None after f refl ]
       | inr g ↦ at_byte b 13 None after g refl
     ]
 
 gap_reaches : (bytes after : List ℕ) → is_gap bytes ≡ true → Reaches style.Race None (length bytes) (bytes ++ after)
 gap_reaches [] after h = absurd cc
-gap_reaches (b ∷ []) after h = elim (or_cases (is_blank b) (eqb b 35) h) [ | inl g ↦ blank_reaches b after g | inr g ↦ comment_after b [] after g refl ]
+gap_reaches (b ∷ []) after h = elim (or_cases (is_blank b) (eqb b 35) h) [ inl g ↦ blank_reaches b after g | inr g ↦ comment_after b [] after g refl ]
 gap_reaches (b ∷ c ∷ bytes) after h = let a = and_parts (eqb b 35) (list_all is_comment_byte (c ∷ bytes)) h in comment_after b (c ∷ bytes) after a.0 a.1
 
 -- bytes that are one of these are the first, or one of the others
 pub one_of : (bytes first : List ℕ) (others : List (List ℕ)) → list_any (bytes_eq bytes) (first ∷ others) ≡ true → (bytes ≡ first) ⊎ (list_any (bytes_eq bytes) others ≡ true)
 one_of bytes first others h =
-    elim (or_cases (bytes_eq bytes first) (list_any (bytes_eq bytes) others) h) [ | inl g ↦ inl ((bytes_eq-Decides bytes first).0 g) | inr g ↦ inr g ]
+    elim (or_cases (bytes_eq bytes first) (list_any (bytes_eq bytes) others) h) [ inl g ↦ inl ((bytes_eq-Decides bytes first).0 g) | inr g ↦ inr g ]
 
 is_one : (text : List ℕ) (k : Option Kind) (bytes after : List ℕ) → bytes ≡ text → Reaches style.Race k (length text) (text ++ after) → Reaches style.Race k (length bytes) (bytes ++ after)
 is_one text k bytes after e r = rw e r
@@ -105,14 +105,14 @@ sign_reaches b after e = one_reaches b (Some kind.Symbol) after e
 any_reaches : (k : Option Kind) (bytes after : List ℕ) (texts : List (List ℕ)) → AllByRecursion (λ text. Reaches style.Race k (length text) (text ++ after)) texts → list_any (bytes_eq bytes) texts ≡ true → Reaches style.Race k (length bytes) (bytes ++ after)
 any_reaches k bytes after [] each h = absurd cc
 any_reaches k bytes after (first ∷ others) each h =
-    elim (one_of bytes first others h) [ | inl e ↦ is_one first k bytes after e each.0 | inr g ↦ any_reaches k bytes after others each.1 g ]
+    elim (one_of bytes first others h) [ inl e ↦ is_one first k bytes after e each.0 | inr g ↦ any_reaches k bytes after others each.1 g ]
 
 symbol_reaches : (bytes after : List ℕ) → is_symbol bytes ≡ true → Reaches style.Race (Some kind.Symbol) (length bytes) (bytes ++ after)
 unfolding race_front
 symbol_reaches bytes after h =
     any_reaches (Some kind.Symbol) bytes after symbols
-      (sign_reaches 40 after refl, (sign_reaches 41 after refl, (sign_reaches 44 after refl, (sign_reaches 61 after refl, (sign_reaches 58 after refl, (dash_reaches after, (arrow_reaches after, tt)))))))
-      h
+    (sign_reaches 40 after refl, (sign_reaches 41 after refl, (sign_reaches 44 after refl, (sign_reaches 61 after refl, (sign_reaches 58 after refl, (dash_reaches after, (arrow_reaches after, tt)))))))
+    h
 
 newline_reaches : (after : List ℕ) → Reaches style.Race (Some kind.EndLine) 1 (10 ∷ after)
 unfolding race_front
@@ -168,14 +168,18 @@ dash_at b bytes h = rw (eqb-true b 45 h) (dash_right bytes)
 sign_right : (b : ℕ) (bytes : List ℕ) → is_sign b ≡ true → IsRight (b ∷ bytes) (Some (Some kind.Symbol, 1))
 sign_right b bytes h =
     elim (or_cases (eqb b 40 || eqb b 41 || eqb b 44 || eqb b 61) (eqb b 58) h) [
-    | inr e ↦ symbol_at b 58 bytes e refl
-    | inl h ↦ elim (or_cases (eqb b 40 || eqb b 41 || eqb b 44) (eqb b 61) h) [
-    | inr e ↦ symbol_at b 61 bytes e refl
-    | inl h ↦ elim (or_cases (eqb b 40 || eqb b 41) (eqb b 44) h) [
-    | inr e ↦ symbol_at b 44 bytes e refl
-    | inl h ↦ elim (or_cases (eqb b 40) (eqb b 41) h) [
-    | inr e ↦ symbol_at b 41 bytes e refl
-    | inl e ↦ symbol_at b 40 bytes e refl ] ] ] ]
+      | inr e ↦ symbol_at b 58 bytes e refl
+      | inl h ↦ elim (or_cases (eqb b 40 || eqb b 41 || eqb b 44) (eqb b 61) h) [
+        | inr e ↦ symbol_at b 61 bytes e refl
+        | inl h ↦ elim (or_cases (eqb b 40 || eqb b 41) (eqb b 44) h) [
+          | inr e ↦ symbol_at b 44 bytes e refl
+          | inl h ↦ elim (or_cases (eqb b 40) (eqb b 41) h) [
+            | inr e ↦ symbol_at b 41 bytes e refl
+            | inl e ↦ symbol_at b 40 bytes e refl
+          ]
+        ]
+      ]
+    ]
 
 newline_right : (b : ℕ) (bytes : List ℕ) → is_newline b ≡ true → IsRight (b ∷ bytes) (Some (Some kind.EndLine, 1))
 newline_right b bytes h = rw (eqb-true b 10 h) (one_right (Some kind.EndLine) 10 bytes refl)
@@ -229,14 +233,14 @@ front_is_longest s k n text e =
       begins = record { piece = h.piece; after = drop n text; split = sym (take-append-drop n text) };
       longest = λ q b. longest_at q b;
     } where
-  longest_at : (q : Piece) → Begins s q text → length q.bytes ≤ length (take n text)
-  longest_at q b =
-    let h = front_stands s k n text e in
-    let r = piece_reaches s q.kind q.bytes b.after b.piece in
-    let same : found k n ≡ found q.kind r.len = sym e ∙ ap (front s) b.split ∙ r.is in
-    let lens : n ≡ r.len = same_len k q.kind n r.len same in
-    let le : length q.bytes ≤ r.len = r.reaches in
-    rw (length-take-le n text h.within) (omega (arith, lens, le))
+      longest_at : (q : Piece) → Begins s q text → length q.bytes ≤ length (take n text)
+      longest_at q b =
+          let h = front_stands s k n text e in
+          let r = piece_reaches s q.kind q.bytes b.after b.piece in
+          let same : found k n ≡ found q.kind r.len = sym e ∙ ap (front s) b.split ∙ r.is in
+          let lens : n ≡ r.len = same_len k q.kind n r.len same in
+          let le : length q.bytes ≤ r.len = r.reaches in
+          rw (length-take-le n text h.within) (omega (arith, lens, le))
 
 -- the longest piece is the one that is computed
 pub longest_is_front : (s : Style) (p : Piece) (text : List ℕ) → IsLongest s p text → front s text ≡ Some (p.kind, length p.bytes)

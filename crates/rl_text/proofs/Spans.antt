@@ -1,8 +1,7 @@
 -- Where the tokens of a text stand, and what each is.
-use Rattle.std.proofs.Common.{◌≡◌, ◌≢◌, ℕ, ◌+◌, ◌-◌, ◌≤◌, Bool, true, false, List, [], ◌∷◌, ◌++◌, length, take, drop, Option, Some, None, refl, sym, ap, subst, ◌∙◌, arith}
+use Rattle.std.proofs.Common.{◌≡◌, ◌≢◌, ℕ, ◌+◌, ◌-◌, ◌≤◌, true, List, [], ◌∷◌, ◌++◌, length, Option, Some, None, refl, sym, ap, ◌∙◌, arith}
 use Rattle.std.specs.Prelude.{All, AllPairs, slice_range}
-use Rattle.std.specs.Str.{bytes_eq}
-use Rattle.std.proofs.lemmas.List.{append-nil, append_assoc, length-append, take_at, drop_at, take_all}
+use Rattle.std.proofs.lemmas.List.{append-nil, append_assoc, length-append, take_at, drop_at}
 use Rattle.std.proofs.lemmas.List.Elements.{All-nil, All-cons, All-weaker}
 use Rattle.std.proofs.lemmas.List.Kept.{AllPairs-cons}
 use Rattle.rl_text.specs.declared.token.Kind.{Kind}
@@ -57,7 +56,7 @@ pub spans : (s : Style) (text before : List ℕ) (ps : List Piece) (low : ℕ) �
 spans s text before [] low e l h = All-cons (IsSpan s text low) (token kind.End before []) [] (end_span s text before low e h) (All-nil (IsSpan s text low))
 spans s text before (p ∷ ps) low e l h =
     with_span s p.kind text before p.bytes (joined ps) low (tokens_of (before ++ p.bytes) ps) e h l.0.begins.piece
-      (spans s text (before ++ p.bytes) ps low (further text before p ps e) l.1 (let a = length-append before p.bytes in omega (arith, a, h)))
+    (spans s text (before ++ p.bytes) ps low (further text before p ps e) l.1 (let a = length-append before p.bytes in omega (arith, a, h)))
 
 -- each token ends before the later ones begin
 abbrev pub Before : Token → Token → Type 0
@@ -73,8 +72,8 @@ orders s text before [] e l = AllPairs-cons Before (token kind.End before []) []
 orders s text before (p ∷ ps) e l =
     let f = further text before p ps e in
     with_order s p.kind text before p.bytes (tokens_of (before ++ p.bytes) ps)
-      (spans s text (before ++ p.bytes) ps (length before + length p.bytes) f l.1 (let a = length-append before p.bytes in omega (arith, a)))
-      (orders s text (before ++ p.bytes) ps f l.1)
+    (spans s text (before ++ p.bytes) ps (length before + length p.bytes) f l.1 (let a = length-append before p.bytes in omega (arith, a)))
+    (orders s text (before ++ p.bytes) ps f l.1)
 
 no_end : (s : Style) (k : Kind) (bytes : List ℕ) → is_token s k bytes ≡ true → k ≢ kind.End
 no_end style.Race kind.Name bytes h e = cc
