@@ -4,3 +4,6 @@ pub mod Code
 pub mod Rules
 pub mod Value
 pub mod Text
+pub mod Grammar
+pub mod Reading
+pub mod Written

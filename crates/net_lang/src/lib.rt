@@ -3,6 +3,7 @@
 
 mod ast;
 mod print;
+mod reader;
 
 pub use ast::{Binding, Expr, Network};
 pub use print::print_network;

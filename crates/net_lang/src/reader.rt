@@ -1,0 +1,4 @@
+//! Reading a network.
+mod reading;
+mod word;
+mod written;
