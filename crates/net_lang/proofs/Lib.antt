@@ -1,2 +1,4 @@
 pub mod WordLemmas
 pub mod Exprs
+pub mod FormLemmas
+pub mod Names

@@ -7,3 +7,6 @@ pub mod Text
 pub mod Grammar
 pub mod Reading
 pub mod Written
+pub mod Forms
+pub mod FormReading
+pub mod FormView

@@ -1,4 +1,5 @@
 //! Reading a network.
+mod form;
 mod reading;
 mod word;
 mod written;
