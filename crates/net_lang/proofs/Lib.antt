@@ -2,3 +2,4 @@ pub mod WordLemmas
 pub mod Exprs
 pub mod FormLemmas
 pub mod Names
+pub mod Numbers

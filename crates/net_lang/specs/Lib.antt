@@ -10,3 +10,7 @@ pub mod Written
 pub mod Forms
 pub mod FormReading
 pub mod FormView
+pub mod Names
+pub mod LineRules
+pub mod Spelling
+pub mod Known
