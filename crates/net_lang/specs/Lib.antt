@@ -14,3 +14,4 @@ pub mod Names
 pub mod LineRules
 pub mod Spelling
 pub mod Known
+pub mod Draft

@@ -86,9 +86,12 @@ joins_in n = sum_by (λ e. joins e.body) (equations n)
 abbrev pub delays_in : Net → ℕ
 delays_in n = sum_by (λ e. delays e.body) (equations n)
 
+abbrev pub is_over : ℕ → ℕ → ℕ → ℕ → Bool
+is_over inputs outputs joins delays = nat_lt 64 inputs || nat_lt 64 outputs || nat_lt 16384 joins || nat_lt 16384 delays
+
 -- there is more of something than a network may have
 abbrev pub has_too_many : Net → Bool
-has_too_many n = nat_lt 64 (length n.inputs) || nat_lt 64 (length n.outputs) || nat_lt 16384 (joins_in n) || nat_lt 16384 (delays_in n)
+has_too_many n = is_over (length n.inputs) (length n.outputs) (joins_in n) (delays_in n)
 
 abbrev pub body_span : Net → Expression → ℕ
 body_span n body = span (let_spans n.lets) (resolved n body)

@@ -1,6 +1,9 @@
 //! Reading a network.
+mod draft;
 mod form;
+mod judge;
 mod measure;
+mod names;
 mod reading;
 mod rules;
 mod scope;
