@@ -20,9 +20,10 @@ use Rattle.net_lang.specs.Grammar.{Expression, written_nesting}
 use Rattle.net_lang.specs.Names.{resolved, knows, place_of}
 use Rattle.net_lang.specs.Forms.{Form, Header, Inputs, Let, Output}
 use Rattle.net_lang.specs.LineRules.{SoFar, allows, equation, extended, some_twice, joins_in, delays_in, is_over, body_span, first_of, first_rule, after}
-use Rattle.net_lang.specs.Known.{find, known, known_by, known_in, AddsName, HasSmallPlace, IsSmall, span_at, found_span, finds_all, written_joins, written_delays}
+use Rattle.net_lang.specs.Known.{find, known, known_by, known_in, AddsName, HasSmallPlace, IsSmall, span_at, found_formula, found_span, finds_all, written_joins, written_delays}
 use Rattle.net_lang.specs.Draft.{net_of, so_far, HasParts, IsSound, IsDraft, Adds}
-use Rattle.net_lang.proofs.Knowing.{place_low, spans, known_all, known_declared, resolved_joins, resolved_delays, resolved_nesting, resolved_over, IsNew, is_new, known_let, known_output, known_input, let_spans_more, names_more, any_more, eq_comm, or_false}
+use Rattle.net_lang.proofs.Sound.{keeps, sound_let, sound_output, sound_inputs}
+use Rattle.net_lang.proofs.Knowing.{place_low, formulas, spans, known_all, known_declared, resolved_joins, resolved_delays, resolved_nesting, resolved_over, IsNew, is_new, known_let, known_output, known_input, let_spans_more, names_more, any_more, eq_comm, or_false}
 
 -- ---- a draft's look-up is small
 
@@ -128,3 +129,108 @@ module _ (d : source.Draft) (name : List ℕ) (t : Expression) (h : IsDraft d) w
       let j = joins_is _ (sum_last (λ (x : Equation). joins x.body) d.lets.items d.outputs.items e) in
       let k = delays_is _ (sum_last (λ (x : Equation). delays x.body) d.lets.items d.outputs.items e) in
       λ i. first_of (not (is_port_name name)) (doubled_is i) (unknown_is i) (ltb 64 (ins i) || ltb 64 (outs i) || j i || k i) (late_is i)
+
+-- ---- a line more
+
+parts_let : (s : Stage) (n : Net) (name : List ℕ) (t : Expression) → allows s (Let name t) ≡ true → HasParts s n → (1 ≤ length n.inputs) × (n.outputs ≡ [])
+parts_let stage.Start n name t a h = absurd cc
+parts_let stage.Header n name t a h = absurd cc
+parts_let stage.Inputs n name t a h = (h.0, h.2)
+parts_let stage.Lets n name t a h = h
+parts_let stage.Outputs n name t a h = absurd cc
+
+parts_output : (s : Stage) (n : Net) (name : List ℕ) (t : Expression) → allows s (Output name t) ≡ true → HasParts s n → 1 ≤ length n.inputs
+parts_output stage.Start n name t a h = absurd cc
+parts_output stage.Header n name t a h = absurd cc
+parts_output stage.Inputs n name t a h = h.0
+parts_output stage.Lets n name t a h = h.0
+parts_output stage.Outputs n name t a h = h.0
+
+pub parts_inputs : (s : Stage) (n : Net) (names : List (List ℕ)) → allows s (Inputs names) ≡ true → HasParts s n → (n.lets ≡ []) × (n.outputs ≡ [])
+parts_inputs stage.Start n names a h = absurd cc
+parts_inputs stage.Header n names a h = (h.1, h.2)
+parts_inputs stage.Inputs n names a h = (h.1, h.2)
+parts_inputs stage.Lets n names a h = absurd cc
+parts_inputs stage.Outputs n names a h = absurd cc
+
+pub short_let : (d : source.Draft) (name : List ℕ) (t : Expression) → IsDraft d → first_rule (net_of d) (Let name t) ≡ None → found_span (find d.scope) t ≤ 1000000
+short_let d name t h e =
+    let late : body_span (net_of d) t ≤ 1000000 = ltb-false 1000000 _ (keeps (net_of d) (Let name t) e).early in
+    let s : found_span (find d.scope) t ≡ body_span (net_of d) t = ap (λ (g : List ℕ → Option Known). found_span g t) (looks d h) ∙ spans (net_of d) t in
+    omega (arith, late, s)
+
+pub short_output : (d : source.Draft) (name : List ℕ) (t : Expression) → IsDraft d → first_rule (net_of d) (Output name t) ≡ None → found_span (find d.scope) t ≤ 1000000
+short_output d name t h e =
+    let late : body_span (net_of d) t ≤ 1000000 = ltb-false 1000000 _ (keeps (net_of d) (Output name t) e).early in
+    let s : found_span (find d.scope) t ≡ body_span (net_of d) t = ap (λ (g : List ℕ → Option Known). found_span g t) (looks d h) ∙ spans (net_of d) t in
+    omega (arith, late, s)
+
+-- counts that are few are not capped
+uncapped : (k m b c : ℕ) → k ≡ m → b ≡ c → m + c ≤ 16384 → k + min b 20000 ≡ m + c
+uncapped k m b c e f h = omega (arith, e, f, h)
+
+pub let_kept : (d new : source.Draft) (name : List ℕ) (t : Expression) → IsDraft d → allows d.stage (Let name t) ≡ true → first_rule (net_of d) (Let name t) ≡ None → written_nesting t ≤ 64
+    → AddsName d.scope new.scope name (known (place.Let (vec_len d.lets)) (min (found_span (find d.scope) t) 1000001)) → new.stage ≡ stage.Lets → net_of new ≡ extended (net_of d) (Let name t)
+    → new.joins ≡ d.joins + min (written_joins t) 20000 → new.delays ≡ d.delays + min (written_delays t) 20000 → Adds d (Let name t) new
+let_kept d new name t h a rule deep scope last same js ds =
+    let n = net_of d in
+    let f = Let name t in
+    let e = equation n name t in
+    let k = keeps n f rule in
+    let p = parts_let d.stage n name t a h.parts in
+    let sound = sound_let n name t h.sound p.1 k deep in
+    let fresh = is_new n name (or_parts (list_any (bytes_eq name) (declared_names n)) false k.new).0 in
+    let late : body_span n t ≤ 1000000 = ltb-false 1000000 _ k.early in
+    let found : found_span (find d.scope) t ≡ body_span n t = ap (λ (g : List ℕ → Option Known). found_span g t) (looks d h) ∙ spans n t in
+    let capped : min (found_span (find d.scope) t) 1000001 ≡ body_span n t = omega (arith, found, late) in
+    let at : vec_len d.lets ≡ length d.lets.items = omega (arith, d.lets.ok) in
+    let j = sum_between (λ (x : Equation). joins x.body) d.lets.items d.outputs.items e in
+    let m = sum_between (λ (x : Equation). delays x.body) d.lets.items d.outputs.items e in
+    let jl : joins_in n + joins (resolved n t) ≤ 16384 = let s = sound.few_joins in omega (arith, s, j) in
+    let ml : delays_in n + delays (resolved n t) ≤ 16384 = let s = sound.few_delays in omega (arith, s, m) in
+    record {
+      now = λ i. record { stage = last i; net = same i };
+      draft = record {
+        names = λ u. scope u ∙ (λ i. cond (bytes_eq name u) (Some (known (place.Let (at i)) (capped i))) (h.names u i)) ∙ known_let n e (body_span n t) fresh refl u ∙ ap (λ (x : Net). known_in x u) (sym same);
+        joins = js ∙ uncapped d.joins (joins_in n) (written_joins t) (joins (resolved n t)) h.joins (resolved_joins n t) jl ∙ sym j ∙ ap joins_in (sym same);
+        delays = ds ∙ uncapped d.delays (delays_in n) (written_delays t) (delays (resolved n t)) h.delays (resolved_delays n t) ml ∙ sym m ∙ ap delays_in (sym same);
+        parts = subst (λ (x : Net). HasParts new.stage x) (sym same) (subst (λ (s : Stage). HasParts s (extended n f)) (sym last) p);
+        sound = subst IsSound (sym same) sound;
+      };
+    }
+
+pub output_kept : (d new : source.Draft) (name : List ℕ) (t : Expression) → IsDraft d → allows d.stage (Output name t) ≡ true → first_rule (net_of d) (Output name t) ≡ None → written_nesting t ≤ 64
+    → AddsName d.scope new.scope name (known place.Output 0) → new.stage ≡ stage.Outputs → net_of new ≡ extended (net_of d) (Output name t)
+    → new.joins ≡ d.joins + min (written_joins t) 20000 → new.delays ≡ d.delays + min (written_delays t) 20000 → Adds d (Output name t) new
+output_kept d new name t h a rule deep scope last same js ds =
+    let n = net_of d in
+    let f = Output name t in
+    let e = equation n name t in
+    let k = keeps n f rule in
+    let p = parts_output d.stage n name t a h.parts in
+    let sound = sound_output n name t h.sound k deep in
+    let fresh = is_new n name (or_parts (list_any (bytes_eq name) (declared_names n)) false k.new).0 in
+    let j = sum_last (λ (x : Equation). joins x.body) d.lets.items d.outputs.items e in
+    let m = sum_last (λ (x : Equation). delays x.body) d.lets.items d.outputs.items e in
+    let jl : joins_in n + joins (resolved n t) ≤ 16384 = let s = sound.few_joins in omega (arith, s, j) in
+    let ml : delays_in n + delays (resolved n t) ≤ 16384 = let s = sound.few_delays in omega (arith, s, m) in
+    let some : 1 ≤ length (n.outputs ++ e ∷ []) = let l = length-append n.outputs (e ∷ []) in omega (arith, l) in
+    record {
+      now = λ i. record { stage = last i; net = same i };
+      draft = record {
+        names = λ u. scope u ∙ (λ i. cond (bytes_eq name u) (Some (known place.Output 0)) (h.names u i)) ∙ known_output n e fresh u ∙ ap (λ (x : Net). known_in x u) (sym same);
+        joins = js ∙ uncapped d.joins (joins_in n) (written_joins t) (joins (resolved n t)) h.joins (resolved_joins n t) jl ∙ sym j ∙ ap joins_in (sym same);
+        delays = ds ∙ uncapped d.delays (delays_in n) (written_delays t) (delays (resolved n t)) h.delays (resolved_delays n t) ml ∙ sym m ∙ ap delays_in (sym same);
+        parts = subst (λ (x : Net). HasParts new.stage x) (sym same) (subst (λ (s : Stage). HasParts s (extended n f)) (sym last) (p, some));
+        sound = subst IsSound (sym same) sound;
+      };
+    }
+
+pub found_is : (d : source.Draft) (t : Expression) → IsDraft d → found_formula (find d.scope) t ≡ resolved (net_of d) t
+found_is d t h = ap (λ (g : List ℕ → Option Known). found_formula g t) (looks d h) ∙ formulas (net_of d) t
+
+-- the binding that was made is the line's
+pub binding_is : (d : source.Draft) (name made : List ℕ) (t : Expression) (body : Formula) → IsDraft d → made ≡ name → body ≡ found_formula (find d.scope) t
+    → (es : List Equation) (e : Equation) → e ≡ record { name = made; body = body } → es ++ e ∷ [] ≡ es ++ equation (net_of d) name t ∷ []
+binding_is d name made t body h m b es e is =
+    ap (λ (x : Equation). es ++ x ∷ []) (is ∙ (λ i. record { name = m i; body = (b ∙ found_is d t h) i }))

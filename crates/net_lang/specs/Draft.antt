@@ -1,5 +1,5 @@
 -- What a reader keeps of the lines before.
-use Rattle.std.specs.Prelude.{◌≡◌, ◌≤◌, ℕ, Bool, true, List, [], length, Option, Some, Result, Ok, Err}
+use Rattle.std.specs.Prelude.{◌≡◌, ◌≤◌, ℕ, Bool, true, List, [], length, Option, Some, None, Result, Ok, Err}
 use Rattle.std.specs.List.{list_all, AllByRecursion}
 use Rattle.rl_text.specs.Lines.{Word}
 use Rattle.net_lang.specs.declared.reader.draft.Draft as source
@@ -10,7 +10,7 @@ use Rattle.net_lang.specs.declared.reader.rules.Stage.TheVariants as stage
 use Rattle.net_lang.specs.Formula.{Net, net}
 use Rattle.net_lang.specs.Rules.{is_let_name, is_port_name, are_distinct, names_of, declared_names, equations, nesting, IsOver, AreLets, let_spans, output_spans}
 use Rattle.net_lang.specs.Forms.{Form}
-use Rattle.net_lang.specs.LineRules.{SoFar, joins_in, delays_in, after}
+use Rattle.net_lang.specs.LineRules.{SoFar, joins_in, delays_in, first_rule, after}
 use Rattle.net_lang.specs.Known.{find, known_in}
 use Rattle.net_lang.specs.Spelling.{Stands, Breaks}
 
@@ -62,3 +62,9 @@ abbrev pub IsJudged : source.Draft → List Word → source.Draft → Result (Un
 IsJudged old ws new (Ok u) = (f : Form) × Stands (so_far old) ws f × Adds old f new
 IsJudged old ws new (Err (Broken r)) = Breaks (so_far old) ws r
 IsJudged old ws new (Err NoMemory) = Unit {0}
+
+-- of a form that its place allows: it breaks no rule, and the draft has it more; or it breaks this rule first
+abbrev pub Judges : source.Draft → Form → source.Draft → Result (Unit {0}) LineError → Type 0
+Judges old f new (Ok u) = (first_rule (net_of old) f ≡ None) × Adds old f new
+Judges old f new (Err (Broken r)) = first_rule (net_of old) f ≡ Some r
+Judges old f new (Err NoMemory) = Unit {0}

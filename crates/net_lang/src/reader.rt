@@ -4,6 +4,7 @@ mod form;
 mod judge;
 mod measure;
 mod names;
+mod push;
 mod reading;
 mod rules;
 mod scope;

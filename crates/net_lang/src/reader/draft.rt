@@ -1,3 +1,6 @@
+ghost use Rattle.std.specs.Prelude.{◌≡◌};
+ghost use Rattle.net_lang.specs.declared.reader.draft.LineError.TheVariants.{NoMemory};
+
 use super::rules::{Rule, Stage};
 use super::scope::Scope;
 use crate::ast::Binding;
@@ -8,6 +11,14 @@ use rl_text::Name;
 pub enum LineError {
     Broken(Rule),
     NoMemory,
+}
+
+impl From<rl_time::NoMemory> for LineError {
+    ghost from_gives = { λ _ e. e ≡ NoMemory };
+
+    fn from(_e: rl_time::NoMemory) -> LineError {
+        LineError::NoMemory
+    }
 }
 
 /// What is kept of the lines before.
