@@ -1,6 +1,7 @@
 //! Reading a network.
 mod draft;
 mod form;
+mod inputs;
 mod judge;
 mod measure;
 mod names;
