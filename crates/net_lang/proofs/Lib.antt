@@ -7,3 +7,4 @@ pub mod Knowing
 pub mod Drafts
 pub mod Sound
 pub mod Declaring
+pub mod Verdicts

@@ -1,8 +1,10 @@
 //! Reading a network.
 mod draft;
+mod error;
 mod form;
 mod inputs;
 mod judge;
+mod line;
 mod measure;
 mod names;
 mod push;
