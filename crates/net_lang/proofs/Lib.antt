@@ -8,3 +8,4 @@ pub mod Drafts
 pub mod Sound
 pub mod Declaring
 pub mod Verdicts
+pub mod Lines
