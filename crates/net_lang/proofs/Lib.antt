@@ -9,3 +9,4 @@ pub mod Sound
 pub mod Declaring
 pub mod Verdicts
 pub mod Lines
+pub mod Whole

@@ -7,9 +7,13 @@ mod judge;
 mod line;
 mod measure;
 mod names;
+mod network;
 mod push;
 mod reading;
 mod rules;
 mod scope;
 mod word;
 mod written;
+
+pub use error::NetError;
+pub use network::read_network;
