@@ -1,3 +1,12 @@
-pub mod SmallLoop
-pub mod SmallNetworks
-pub mod SmallAgain
+pub mod WordLemmas
+pub mod Exprs
+pub mod FormLemmas
+pub mod Names
+pub mod Numbers
+pub mod Knowing
+pub mod Drafts
+pub mod Sound
+pub mod Declaring
+pub mod Verdicts
+pub mod Lines
+pub mod Whole

@@ -4,5 +4,15 @@ pub mod Code
 pub mod Rules
 pub mod Value
 pub mod Text
-pub mod Small
-pub mod Candidate
+pub mod Grammar
+pub mod Reading
+pub mod Written
+pub mod Forms
+pub mod FormReading
+pub mod FormView
+pub mod Names
+pub mod LineRules
+pub mod Spelling
+pub mod Known
+pub mod Draft
+pub mod Outcome

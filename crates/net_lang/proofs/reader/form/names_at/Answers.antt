@@ -1,0 +1,15 @@
+use Rattle.std.proofs.Common.{◌≡◌, refl, sym, ap, ◌∙◌, List, ℕ, length}
+use Rattle.std.proofs.lemmas.List.{map_push}
+use Rattle.net_lang.proofs.Names.{with_names, one_more, none_more, all_done, with_names-nil}
+use Rattle.net_lang.proofs.reader.form.names_at.Goals as goal
+
+pub returns : goal.returns
+returns c = sym c.loop-w.invariant ∙ all_done _ c.args.ws.now c.loop-w.w-index c.loop-w-test.false
+
+pub returns-then-not-is_name : goal.returns-then-not-is_name
+returns-then-not-is_name c = let h = sym c.is_name.ensures ∙ c.if-not-is_name.true in sym c.loop-w.invariant ∙ none_more _ c.args.ws.now c.loop-w.w-index _ c.loop-w-test.true h
+
+pub loop-w-preserved : goal.loop-w-preserved
+loop-w-preserved c =
+    let h = sym c.is_name.ensures ∙ c.if-not-is_name.false in
+    rw (c.in_ok-push.ensures.items, map_push) (sym (one_more _ c.args.ws.now c.loop-w.w-index _ c.loop-w-test.true h) ∙ c.loop-w.invariant)

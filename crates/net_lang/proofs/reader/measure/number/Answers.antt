@@ -1,0 +1,15 @@
+use Rattle.std.proofs.Common.{◌≡◌, ◌+◌, ◌*◌, ◌-◌, refl, sym, ap, ◌∙◌, arith, get_or, ℕ, List, drop}
+use Rattle.std.specs.Prelude.{min}
+use Rattle.net_lang.specs.Names.{number_from}
+use Rattle.net_lang.proofs.Numbers.{step}
+use Rattle.net_lang.proofs.reader.measure.number.Goals as goal
+
+pub loop-d-preserved : goal.loop-d-preserved
+loop-d-preserved c =
+    let ds = c.args.digits.now in
+    let i = c.loop-d.d-index in
+    let e : c.min-n.result ≡ min (c.loop-d.n * 10 + (get_or ds i 0 - 48)) 1000001 = search (arith, c.min-n.ensures, c.from.ensures, c.saturating_sub.ensures) in
+    record {
+      small = omega (arith, e);
+      so_far = rw e (sym (step ds i c.loop-d.n 0 c.loop-d-test.true) ∙ c.loop-d.invariant.so_far);
+    }

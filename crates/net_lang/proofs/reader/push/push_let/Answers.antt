@@ -1,0 +1,25 @@
+use Rattle.std.proofs.Common.{refl, ap, sym, ◌∙◌, ℕ, List, ◌+◌}
+use Rattle.net_lang.specs.Formula.{Equation, net}
+use Rattle.net_lang.specs.Written.{expression}
+use Rattle.net_lang.specs.View.{formula}
+use Rattle.net_lang.proofs.Drafts.{small, short_let, let_kept, binding_is}
+use Rattle.net_lang.proofs.reader.push.push_let.Goals as goal
+
+pub span-span-requires : goal.span-span-requires
+span-span-requires c = small c.args.draft.now c.requires.draft c.requires.lets
+
+pub resolve-requires-clause-small : goal.resolve-requires-clause-small
+resolve-requires-clause-small c = small c.args.draft.now c.requires.draft c.requires.lets
+
+pub resolve-requires-clause-short : goal.resolve-requires-clause-short
+resolve-requires-clause-short c = short_let c.args.draft.now c.args.name.now (expression c.args.body.now) c.requires.draft c.requires.keeps
+
+pub returns : goal.returns
+returns c =
+    let d = c.args.draft.now in
+    let t = expression c.args.body.now in
+    let_kept d _ c.args.name.now t c.requires.draft c.requires.allowed c.requires.keeps c.requires.nested
+      (rw (← c.span-span.ensures, ← c.len-place.ensures) c.in_ok-add.ensures) refl
+      (ap (λ (es : List Equation). net d.inputs.items es d.outputs.items)
+        (c.in_ok-push.ensures.items ∙ binding_is d c.args.name.now _ t (formula c.in_ok-value.value) c.requires.draft c.in_ok-new.ensures c.in_ok-value.ensures d.lets.items _ c.new-binding.ensures))
+      (ap (λ (k : ℕ). d.joins + k) c.joins.ensures) (ap (λ (k : ℕ). d.delays + k) c.delays.ensures)

@@ -1,0 +1,12 @@
+-- What a form of the code is.
+use Rattle.std.specs.Prelude.{ℕ, List, map}
+use Rattle.net_lang.specs.declared.reader.form.Form as source
+use Rattle.net_lang.specs.declared.reader.form.Form.TheVariants as f
+use Rattle.net_lang.specs.Forms.{Form, Header, Inputs, Let, Output}
+use Rattle.net_lang.specs.Written.{expression}
+
+abbrev pub form : source.Form → Form
+form f.Header = Header
+form (f.Inputs ns) = Inputs (map (λ n. n.now) ns.items)
+form (f.Let n t) = Let n.now (expression t)
+form (f.Output n t) = Output n.now (expression t)
