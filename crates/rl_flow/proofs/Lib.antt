@@ -1,2 +1,2 @@
 pub mod Right
-pub mod Small
+pub mod Putting

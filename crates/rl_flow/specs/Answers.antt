@@ -1,12 +1,11 @@
 -- What each answer of a run says.
-use Rattle.std.specs.Prelude.{◌≡◌, ◌≢◌, ◌⊎◌, ℕ, ◌<◌, ◌≤◌, List, ◌++◌, length, take, Option, Some, None, IsSome, IsSomeAnd}
+use Rattle.std.specs.Prelude.{◌≡◌, ◌⊎◌, ℕ, ◌<◌, ◌≤◌, List, length, take, Option, Some, None, IsSome, IsSomeAnd}
 use Rattle.std.specs.Map.{lookup}
 use Rattle.std.specs.Str.{bytes_eq}
+use Rattle.net_lang.specs.declared.reader.rules.Rule.{Rule}
 use Rattle.rl_io.specs.Causes.{Rose}
 use Rattle.rl_io.specs.Files.{Files, OnFile, Adds}
-use Rattle.net_lang.specs.Formula.{Net}
-use Rattle.net_lang.specs.Small.{IsSmallText}
-use Rattle.rl_flow.specs.Compiled.{IsModuleText, IsOther}
+use Rattle.rl_flow.specs.Compiled.{IsModuleText, IsBroken, HasTooManyBits}
 use Rattle.rl_flow.specs.Refusal.{status_of, line_of}
 use Rattle.rl_flow.specs.declared.refusal.Refusal.{Refusal}
 use Rattle.rl_flow.specs.declared.refusal.Refusal.TheVariants as why
@@ -17,17 +16,24 @@ use Rattle.rl_flow.specs.declared.status.Status.TheVariants as end
 abbrev pub limit : ℕ
 limit = 1048576
 
+-- what a refusal says of the bytes of a file that was read
+abbrev pub IsCause : List ℕ → Refusal → Type 0
+IsCause bytes (why.Network r line) = IsBroken bytes r line
+IsCause bytes (why.TooManyBits bits) = HasTooManyBits bytes bits
+IsCause bytes why.NoMemory = Unit {0}
+IsCause bytes _ = ⊥
+
 -- where the shelf tells its files: the one of this name is longer than the limit
 abbrev pub IsTooLong : Option Files → List ℕ → Type 0
 IsTooLong told file = OnFile told file (λ bytes. limit < length bytes)
 
--- where the shelf tells its files: the one of this name is within the limit, and no network that can be compiled has its text
-abbrev pub IsOtherFile : Option Files → List ℕ → Type 0
-IsOtherFile told file = OnFile told file (λ bytes. (length bytes ≤ limit) × IsOther bytes)
+-- where the shelf tells its files: the one of this name is within the limit, and its bytes have this property
+abbrev pub OnBytes : Option Files → List ℕ → (List ℕ → Type 0) → Type 0
+OnBytes told file P = OnFile told file (λ bytes. (length bytes ≤ limit) × P bytes)
 
--- where the shelf tells its files: the one of this name is within the limit, and this is the text of its module
+-- where the shelf tells its files: the one of this name spells a network, and this is the text of its module
 abbrev pub IsCompiled : Option Files → List ℕ → List ℕ → Type 0
-IsCompiled told file text = OnFile told file (λ bytes. (length bytes ≤ limit) × IsModuleText bytes text)
+IsCompiled told file text = OnBytes told file (λ bytes. IsModuleText bytes text)
 
 -- the command was done: the sink gained the text of the file's module, and nothing else
 abbrev pub Compiles : Option Files → Option (List ℕ) → Option (List ℕ) → List ℕ → Type 0
@@ -47,7 +53,8 @@ PutsLine err err' faults faults' line =
 abbrev pub HasCause : Option (List ℕ) → Option Files → (List ℕ → Type 0) → Type 0 → Type 0 → Refusal → Type 0
 HasCause command told rose much failed why.Words = command ≡ None
 HasCause command told rose much failed why.TooLong = IsSomeAnd command (IsTooLong told) × much
-HasCause command told rose much failed why.Other = IsSomeAnd command (IsOtherFile told)
+HasCause command told rose much failed (why.Network r line) = IsSomeAnd command (λ file. OnBytes told file (λ bytes. IsBroken bytes r line))
+HasCause command told rose much failed (why.TooManyBits bits) = IsSomeAnd command (λ file. OnBytes told file (λ bytes. HasTooManyBits bytes bits))
 HasCause command told rose much failed why.ReadFault = IsSomeAnd command rose
 HasCause command told rose much failed why.WriteFault = IsSome command × failed
 HasCause command told rose much failed why.NoMemory = IsSome command
@@ -62,12 +69,17 @@ abbrev pub Tells : Option Files → List ℕ → List ℕ → Type 0
 Tells None file bytes = ⊥
 Tells (Some files) file bytes = lookup (bytes_eq file) files ≡ Some bytes
 
+-- where the shelf tells its files, the one of this name is refused: it is too long, breaks a rule, or has too many register bits
+abbrev pub IsRefused : Option Files → List ℕ → Type 0
+IsRefused told file =
+    IsTooLong told file ⊎ (((r : Rule) × ((line : ℕ) × OnBytes told file (λ bytes. IsBroken bytes r line))) ⊎ ((bits : ℕ) × OnBytes told file (λ bytes. HasTooManyBits bytes bits)))
+
 -- what each status says: of the words, of the file that they name, and of the faults that rose
 abbrev pub Says : Option (List ℕ) → Option Files → (List ℕ → Type 0) → Type 0 → Status → Type 0
 Says command told rose failed end.Done = IsSome command
 Says command told rose failed end.No = ⊥
 Says command told rose failed end.Words = command ≡ None
-Says command told rose failed end.Refused = IsSomeAnd command (λ file. IsTooLong told file ⊎ IsOtherFile told file)
+Says command told rose failed end.Refused = IsSomeAnd command (IsRefused told)
 Says command told rose failed end.ReadFault = IsSomeAnd command rose
 Says command told rose failed end.WriteFault = IsSome command × failed
 Says command told rose failed end.NoMemory = IsSome command

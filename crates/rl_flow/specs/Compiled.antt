@@ -1,15 +1,17 @@
 -- What it is to compile a network rightly.
-use Rattle.std.specs.Prelude.{◌≡◌, ℕ, List, map}
+use Rattle.std.specs.Prelude.{◌≡◌, ◌⊎◌, ℕ, ◌<◌, ◌≤◌, List, map}
 use Rattle.rl_time.specs.declared.time.Time.{Time}
+use Rattle.net_lang.specs.declared.reader.rules.Rule.{Rule}
+use Rattle.net_lang.specs.declared.reader.rules.Rule.TheVariants as rule
 use Rattle.net_lang.specs.Formula.{Net}
 use Rattle.net_lang.specs.Rules.{names_of}
-use Rattle.net_lang.specs.Small.{IsSmallText}
+use Rattle.net_lang.specs.Spelling.{SpellsNetwork, BreaksFirst, HasBadByte}
 use Rattle.net_lang.specs.Value.{space_time_function}
 use Rattle.verilog_text.specs.Circuit.{Circuit}
 use Rattle.verilog_text.specs.Meaning.{State, IsHistory, HasOneHistory, levels_from}
 use Rattle.verilog_text.specs.Text.{module_text}
 use Rattle.gate_lower.specs.Plain.{plain_module}
-use Rattle.gate_lower.specs.Written.{written_netlist}
+use Rattle.gate_lower.specs.Written.{written_netlist, written_bits}
 
 -- The module does what the network says. Its ports have the network's names, in order. For all input times and every number of
 -- cycles after reset it has exactly one history, and in it the outputs have in each cycle the levels of wires that rise at the
@@ -25,13 +27,17 @@ pub record Realises (n : Net) (m : Circuit) : Type 0 where
 abbrev pub compiled_module : Net → Circuit
 compiled_module n = plain_module (written_netlist n)
 
--- the bytes are a small text of a network, and the text is that of its module, which does what the network says
+-- the bytes spell a network, and the text is that of its module, which does what the network says
 pub record IsModuleText (bytes text : List ℕ) : Type 0 where
   pub network : Net
-  pub read : IsSmallText bytes network
+  pub read : SpellsNetwork bytes network
   pub written : text ≡ module_text (compiled_module network)
   pub right : Realises network (compiled_module network)
 
--- no network that can be compiled has this text
-abbrev pub IsOther : List ℕ → Type 0
-IsOther bytes = (n : Net) → IsSmallText bytes n → ⊥
+-- the bytes spell no network: this is the rule that they break first, on this line; a bad byte breaks the syntax before all else
+abbrev pub IsBroken : List ℕ → Rule → ℕ → Type 0
+IsBroken bytes r line = BreaksFirst bytes r line ⊎ ((r ≡ rule.Syntax) × HasBadByte bytes line)
+
+-- the bytes spell a network of so many register bits, more than a module may have
+abbrev pub HasTooManyBits : List ℕ → ℕ → Type 0
+HasTooManyBits bytes bits = (n : Net) × SpellsNetwork bytes n × (bits ≡ written_bits n) × (65536 < bits)

@@ -1,15 +1,13 @@
-ghost use Rattle.std.specs.Prelude.{◌≡◌, ◌⊎◌, ◌≤◌, ◌<◌, ℕ, length, IfOk, IfErr, OnOk, Err};
-ghost use Rattle.net_lang.specs.Small.{IsSmall};
-ghost use Rattle.verilog_text.specs.Text.{module_text};
+ghost use Rattle.std.specs.Prelude.{◌≡◌, ◌≤◌, ◌<◌, ℕ, length, IfOk, IfErr, Err};
+ghost use Rattle.net_lang.specs.Spelling.{SpellsNetwork};
 ghost use Rattle.gate_lower.specs.Written.{written_bits};
 ghost use Rattle.gate_lower.specs.declared.lower.LowerError.TheVariants.{TooManyBits};
-ghost use Rattle.rl_flow.specs.Answers.{limit};
-ghost use Rattle.rl_flow.specs.Compiled.{Realises, compiled_module, IsModuleText, IsOther};
-ghost use Rattle.rl_flow.specs.declared.refusal.Refusal.TheVariants.{Other, NoMemory};
+ghost use Rattle.rl_flow.specs.Answers.{limit, IsCause};
+ghost use Rattle.rl_flow.specs.Compiled.{Realises, compiled_module, IsModuleText};
 
 use crate::refusal::Refusal;
 use gate_lower::{LowerError, emit, lower_written};
-use net_lang::{Network, SmallError, read_small};
+use net_lang::{NetError, Network, Rule, read_network};
 use std::alloc::Global;
 use verilog_text::{Module, laws, print_module};
 
@@ -17,6 +15,7 @@ use verilog_text::{Module, laws, print_module};
 fn module_of(alloc: Global, n: &Network) -> Result<Module, LowerError>
     ensures is { IfOk result (λ m. m ≡ compiled_module n.now) }
     ensures right { IfOk result (Realises n.now) }
+    ensures few { IfOk result (λ m. written_bits n.now ≤ 65536) }
     ensures too_many { (bits : ℕ) → result ≡ Err (TooManyBits bits) → (bits ≡ written_bits n.now) × (65536 < bits) }
 {
     let gates = lower_written(alloc, n)?;
@@ -26,21 +25,21 @@ fn module_of(alloc: Global, n: &Network) -> Result<Module, LowerError>
     Ok(module)
 }
 
-/// The text of the module of a network that has no register bits.
-fn module_text(alloc: Global, n: &Network) -> Result<Vec<u8>, Refusal>
-    requires { IsSmall n.now }
-    ensures text { IfOk result (λ text. text.items ≡ module_text (compiled_module n.now)) }
-    ensures right { OnOk result (Realises n.now (compiled_module n.now)) }
-    ensures memory { IfErr result (λ why. why ≡ NoMemory) }
+/// The network of a file's bytes.
+fn network_of(alloc: Global, bytes: &[u8]) -> Result<Network, Refusal>
+    requires { length bytes.now ≤ limit }
+    ensures network { IfOk result (SpellsNetwork bytes.now) }
+    ensures cause { IfErr result (IsCause bytes.now) }
 {
-    let module = match module_of(alloc, n) {
-        Ok(module) => module,
-        Err(LowerError::NoMemory) => return Err(Refusal::NoMemory),
-        Err(LowerError::TooManyBits(_)) => unreachable!(),
-    };
-    match print_module(alloc, &module) {
-        Ok(text) => Ok(text),
-        Err(_) => Err(Refusal::NoMemory),
+    match read_network(alloc, bytes) {
+        Ok(n) => Ok(n),
+        Err(NetError::Syntax(line)) => Err(Refusal::Network(Rule::Syntax, line)),
+        Err(NetError::Name(line)) => Err(Refusal::Network(Rule::Name, line)),
+        Err(NetError::Doubled(line)) => Err(Refusal::Network(Rule::Doubled, line)),
+        Err(NetError::Unknown(line)) => Err(Refusal::Network(Rule::Unknown, line)),
+        Err(NetError::Count(line)) => Err(Refusal::Network(Rule::Count, line)),
+        Err(NetError::Span(line)) => Err(Refusal::Network(Rule::Span, line)),
+        Err(NetError::NoMemory) => Err(Refusal::NoMemory),
     }
 }
 
@@ -48,11 +47,16 @@ fn module_text(alloc: Global, n: &Network) -> Result<Vec<u8>, Refusal>
 pub fn translate(alloc: Global, bytes: &[u8]) -> Result<Vec<u8>, Refusal>
     requires { length bytes.now ≤ limit }
     ensures text { IfOk result (λ text. IsModuleText bytes.now text.items) }
-    ensures cause { IfErr result (λ why. (why ≡ NoMemory) ⊎ ((why ≡ Other) × IsOther bytes.now)) }
+    ensures cause { IfErr result (IsCause bytes.now) }
 {
-    match read_small(alloc, bytes) {
-        Ok(n) => module_text(alloc, &n),
-        Err(SmallError::Other) => Err(Refusal::Other),
-        Err(SmallError::NoMemory) => Err(Refusal::NoMemory),
+    let n = network_of(alloc, bytes)?;
+    let module = match module_of(alloc, &n) {
+        Ok(module) => module,
+        Err(LowerError::TooManyBits(bits)) => return Err(Refusal::TooManyBits(bits)),
+        Err(LowerError::NoMemory) => return Err(Refusal::NoMemory),
+    };
+    match print_module(alloc, &module) {
+        Ok(text) => Ok(text),
+        Err(_) => Err(Refusal::NoMemory),
     }
 }

@@ -4,12 +4,9 @@
 mod command;
 mod compile;
 mod refusal;
-mod running;
 mod status;
+mod telling;
 
 pub use refusal::Refusal;
-pub use running::run;
 pub use status::Status;
 
-#[cfg(test)]
-mod tests;

@@ -1,7 +1,8 @@
 ghost use Rattle.std.specs.Prelude.{◌≡◌};
-ghost use Rattle.rl_flow.specs.Refusal.{status_of, line_of};
+ghost use Rattle.rl_flow.specs.Refusal.{status_of};
 
 use crate::status::Status;
+use net_lang::Rule;
 
 /// Why a command isn't done.
 #[derive(Clone, Copy, Debug, PartialEq, Eq)]
@@ -10,8 +11,10 @@ pub enum Refusal {
     Words,
     /// The file is longer than 1,048,576 bytes (E01).
     TooLong,
-    /// The file can't be compiled yet (E09).
-    Other,
+    /// The file's text is no network: the rule that it breaks first, and the line, from 1 (E10 to E15).
+    Network(Rule, u32),
+    /// The network has so many register bits, more than 65,536 (E20).
+    TooManyBits(u64),
     /// The file could not be read.
     ReadFault,
     /// Standard output failed.
@@ -27,24 +30,10 @@ impl Refusal {
     {
         match self {
             Refusal::Words => Status::Words,
-            Refusal::TooLong | Refusal::Other => Status::Refused,
+            Refusal::TooLong | Refusal::Network(_, _) | Refusal::TooManyBits(_) => Status::Refused,
             Refusal::ReadFault => Status::ReadFault,
             Refusal::WriteFault => Status::WriteFault,
             Refusal::NoMemory => Status::NoMemory,
-        }
-    }
-
-    /// The line for standard error.
-    pub fn line(&self) -> &'static [u8]
-        ensures { result.now ≡ line_of self.now }
-    {
-        match self {
-            Refusal::Words => b"racelog: usage\n",
-            Refusal::TooLong => b"racelog: E01 file 1 1048576\n",
-            Refusal::Other => b"racelog: E09 file 1\n",
-            Refusal::ReadFault => b"racelog: read fault file 1\n",
-            Refusal::WriteFault => b"racelog: write fault\n",
-            Refusal::NoMemory => b"racelog: no memory\n",
         }
     }
 }

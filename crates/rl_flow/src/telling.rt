@@ -1,0 +1,67 @@
+ghost use Rattle.std.specs.Prelude.{◌≡◌, ℕ, ◌≤◌, ◌<◌, ◌++◌, length, take, codes, decimal, OnOk, OnErr};
+ghost use Rattle.rl_io.specs.Causes.{Rose};
+ghost use Rattle.rl_io.specs.Files.{Adds};
+ghost use Rattle.rl_flow.specs.Refusal.{rule_text, line_of};
+
+use crate::refusal::Refusal;
+use itoa::Buffer;
+use net_lang::Rule;
+use rl_io::{Sink, SinkFault, put_all};
+
+fn rule_text(rule: Rule) -> &'static [u8]
+    ensures { result.now ≡ rule_text rule }
+{
+    match rule {
+        Rule::Syntax => b"racelog: E10 file 1 line ",
+        Rule::Name => b"racelog: E11 file 1 line ",
+        Rule::Span => b"racelog: E12 file 1 line ",
+        Rule::Doubled => b"racelog: E13 file 1 line ",
+        Rule::Unknown => b"racelog: E14 file 1 line ",
+        Rule::Count => b"racelog: E15 file 1 line ",
+    }
+}
+
+/// Puts two texts, one behind the other.
+fn put_both<K: Sink>(sink: &mut K, first: &[u8], second: &[u8]) -> Result<(), SinkFault>
+    ensures ok { OnOk result (Adds (K.written sink.old) (K.written sink.new) (first.now ++ second.now)) }
+    ensures part { OnErr result ((n : ℕ) × (n < length (first.now ++ second.now)) × Adds (K.written sink.old) (K.written sink.new) (take n (first.now ++ second.now))) }
+    ensures fault { OnErr result (Rose (K.faults sink.old) (K.faults sink.new)) }
+    ensures later { K.faults sink.old ≤ K.faults sink.new }
+    ensures planned { K.plan sink.new ≡ K.plan sink.old }
+{
+    put_all(sink, first)?;
+    put_all(sink, second)
+}
+
+/// Puts the beginning of a line, a number, and the end of the line.
+fn put_numbered<K: Sink>(sink: &mut K, beginning: &[u8], number: u64) -> Result<(), SinkFault>
+    ensures ok { OnOk result (Adds (K.written sink.old) (K.written sink.new) (beginning.now ++ decimal number ++ codes "\n")) }
+    ensures part { OnErr result ((n : ℕ) × (n < length (beginning.now ++ decimal number ++ codes "\n")) × Adds (K.written sink.old) (K.written sink.new) (take n (beginning.now ++ decimal number ++ codes "\n"))) }
+    ensures fault { OnErr result (Rose (K.faults sink.old) (K.faults sink.new)) }
+    ensures later { K.faults sink.old ≤ K.faults sink.new }
+    ensures planned { K.plan sink.new ≡ K.plan sink.old }
+{
+    let mut buffer = Buffer::new();
+    let digits = buffer.format(number).as_bytes();
+    put_both(sink, beginning, digits)?;
+    put_all(sink, b"\n")
+}
+
+/// Puts the line of a refusal, without taking memory.
+pub fn put_line<K: Sink>(sink: &mut K, refusal: Refusal) -> Result<(), SinkFault>
+    ensures ok { OnOk result (Adds (K.written sink.old) (K.written sink.new) (line_of refusal)) }
+    ensures part { OnErr result ((n : ℕ) × (n < length (line_of refusal)) × Adds (K.written sink.old) (K.written sink.new) (take n (line_of refusal))) }
+    ensures fault { OnErr result (Rose (K.faults sink.old) (K.faults sink.new)) }
+    ensures later { K.faults sink.old ≤ K.faults sink.new }
+    ensures planned { K.plan sink.new ≡ K.plan sink.old }
+{
+    match refusal {
+        Refusal::Words => put_all(sink, b"racelog: usage\n"),
+        Refusal::TooLong => put_all(sink, b"racelog: E01 file 1 1048576\n"),
+        Refusal::Network(rule, line) => put_numbered(sink, rule_text(rule), u64::from(line)),
+        Refusal::TooManyBits(bits) => put_numbered(sink, b"racelog: E20 ", bits),
+        Refusal::ReadFault => put_all(sink, b"racelog: read fault file 1\n"),
+        Refusal::WriteFault => put_all(sink, b"racelog: write fault\n"),
+        Refusal::NoMemory => put_all(sink, b"racelog: no memory\n"),
+    }
+}
