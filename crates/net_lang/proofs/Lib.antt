@@ -6,3 +6,4 @@ pub mod Numbers
 pub mod Knowing
 pub mod Drafts
 pub mod Sound
+pub mod PrintedPieces
