@@ -7,3 +7,5 @@ pub mod Knowing
 pub mod Drafts
 pub mod Sound
 pub mod PrintedPieces
+pub mod PrintedDigits
+pub mod PrintedWords
