@@ -9,3 +9,4 @@ pub mod Sound
 pub mod PrintedPieces
 pub mod PrintedDigits
 pub mod PrintedWords
+pub mod PrintedLines

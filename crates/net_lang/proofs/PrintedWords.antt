@@ -125,7 +125,7 @@ reads_equation w inputs lets e rest ws h p r =
     subst (λ (t : List ℕ). Reads t (name w ∷ name e.name ∷ sign (codes "=") ∷ vs)) (sym (equation_bytes w e.name x rest)) all
 
 -- lines in front of others
-line_words : (a b : List Word) (x : Word) (ws : List Word) → ((a ++ x ∷ []) ++ b) ++ ws ≡ a ++ (x ∷ (b ++ ws))
+pub line_words : (a b : List Word) (x : Word) (ws : List Word) → ((a ++ x ∷ []) ++ b) ++ ws ≡ a ++ (x ∷ (b ++ ws))
 line_words a b x ws = simp append_assoc
 
 reads_lets : (inputs lets : List (List ℕ)) (es : List Equation) (rest : List ℕ) (ws : List Word) → AllByRecursion (HasNames inputs lets) es → Reads rest ws
