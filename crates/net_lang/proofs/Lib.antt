@@ -10,3 +10,4 @@ pub mod PrintedPieces
 pub mod PrintedDigits
 pub mod PrintedWords
 pub mod PrintedLines
+pub mod PrintedNames
