@@ -11,3 +11,4 @@ pub mod PrintedDigits
 pub mod PrintedWords
 pub mod PrintedLines
 pub mod PrintedNames
+pub mod PrintedRules
