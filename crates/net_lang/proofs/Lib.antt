@@ -12,3 +12,7 @@ pub mod PrintedWords
 pub mod PrintedLines
 pub mod PrintedNames
 pub mod PrintedRules
+pub mod Declaring
+pub mod Verdicts
+pub mod Lines
+pub mod Whole

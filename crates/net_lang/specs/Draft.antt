@@ -1,8 +1,9 @@
 -- What a reader keeps of the lines before.
-use Rattle.std.specs.Prelude.{◌≡◌, ◌≤◌, ℕ, Bool, true, List, [], length, Option, Some, None, Result, Ok, Err}
+use Rattle.std.specs.Prelude.{◌≡◌, ◌≤◌, ℕ, Bool, true, false, List, [], ◌++◌, length, Option, Some, None, Result, Ok, Err}
 use Rattle.std.specs.List.{list_all, AllByRecursion}
 use Rattle.rl_text.specs.Lines.{Word}
 use Rattle.net_lang.specs.declared.reader.draft.Draft as source
+use Rattle.net_lang.specs.declared.reader.scope.Scope as source_scope
 use Rattle.net_lang.specs.declared.reader.draft.LineError.{LineError}
 use Rattle.net_lang.specs.declared.reader.draft.LineError.TheVariants.{Broken, NoMemory}
 use Rattle.net_lang.specs.declared.reader.rules.Stage.{Stage}
@@ -10,7 +11,7 @@ use Rattle.net_lang.specs.declared.reader.rules.Stage.TheVariants as stage
 use Rattle.net_lang.specs.Formula.{Net, net}
 use Rattle.net_lang.specs.Rules.{is_let_name, is_port_name, are_distinct, names_of, declared_names, equations, nesting, IsOver, AreLets, let_spans, output_spans}
 use Rattle.net_lang.specs.Forms.{Form}
-use Rattle.net_lang.specs.LineRules.{SoFar, joins_in, delays_in, first_rule, after}
+use Rattle.net_lang.specs.LineRules.{SoFar, some_twice, joins_in, delays_in, first_rule, after}
 use Rattle.net_lang.specs.Known.{find, known_in}
 use Rattle.net_lang.specs.Spelling.{Stands, Breaks}
 
@@ -68,3 +69,12 @@ abbrev pub Judges : source.Draft → Form → source.Draft → Result (Unit {0})
 Judges old f new (Ok u) = (first_rule (net_of old) f ≡ None) × Adds old f new
 Judges old f new (Err (Broken r)) = first_rule (net_of old) f ≡ Some r
 Judges old f new (Err NoMemory) = Unit {0}
+
+-- the scope knows these inputs, and no more
+abbrev pub KnowsInputs : source_scope.Scope → List (List ℕ) → Type 0
+KnowsInputs s inputs = (t : List ℕ) → find s t ≡ known_in (net inputs [] []) t
+
+-- whether these names are all new, and then the scope knows them and they stand behind the others
+abbrev pub Declares : List (List ℕ) → List (List ℕ) → source_scope.Scope → List (List ℕ) → Bool → Type 0
+Declares old names scope new true = (some_twice old names ≡ false) × (new ≡ old ++ names) × KnowsInputs scope new
+Declares old names scope new false = some_twice old names ≡ true

@@ -15,3 +15,4 @@ pub mod LineRules
 pub mod Spelling
 pub mod Known
 pub mod Draft
+pub mod Outcome

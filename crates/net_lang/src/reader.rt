@@ -1,12 +1,19 @@
 //! Reading a network.
 mod draft;
+mod error;
 mod form;
+mod inputs;
 mod judge;
+mod line;
 mod measure;
 mod names;
+mod network;
 mod push;
 mod reading;
 mod rules;
 mod scope;
 mod word;
 mod written;
+
+pub use error::NetError;
+pub use network::read_network;

@@ -1,0 +1,127 @@
+-- What the lines of a text say of the text.
+use Rattle.std.proofs.Common.{◌≡◌, ℕ, suc, ◌+◌, ◌≤◌, ◌<◌, ◌^◌, Bool, true, false, List, [], ◌∷◌, ◌++◌, length, map, take, Option, Some, None, Result, Ok, Err, refl, sym, ap, subst, ◌∙◌, arith, inl, inr}
+use Rattle.std.specs.Prelude.{flat_map, ◌⊎◌, count_by}
+use Rattle.std.specs.List.{slice_split}
+use Rattle.std.proofs.lemmas.List.{length-append, length-map, append-nil, take_all}
+use Rattle.std.proofs.lemmas.List.Splits.{length-slice_split}
+use Rattle.std.proofs.lemmas.List.Sums.{count_by-le-length}
+use Rattle.rl_text.specs.declared.words.Line as source
+use Rattle.rl_text.specs.declared.token.Kind.{Kind}
+use Rattle.rl_text.specs.declared.token.Token.{Token}
+use Rattle.rl_text.specs.declared.token.Style.{Style}
+use Rattle.rl_text.specs.declared.token.Style.TheVariants as style
+use Rattle.rl_text.specs.Pieces.{Piece, is_piece, joined, AreLongest, Begins}
+use Rattle.rl_text.specs.Tokens.{token, with_token, tokens_of, line_behind, AreTokens, IsBad}
+use Rattle.rl_text.specs.Lines.{Line, line_of, lines, ends_line}
+use Rattle.rl_text.specs.Words.{line}
+use Rattle.rl_text.proofs.Cuts.{stops_at_end}
+use Rattle.net_lang.specs.declared.reader.rules.Rule.{Rule}
+use Rattle.net_lang.specs.declared.reader.rules.Rule.TheVariants as rule
+use Rattle.net_lang.specs.declared.reader.rules.Stage.{Stage}
+use Rattle.net_lang.specs.declared.reader.rules.Stage.TheVariants as stage
+use Rattle.net_lang.specs.declared.reader.error.NetError.{NetError}
+use Rattle.net_lang.specs.declared.reader.error.NetError.TheVariants as error
+use Rattle.net_lang.specs.declared.reader.draft.Draft as kept
+use Rattle.net_lang.specs.Formula.{Net}
+use Rattle.net_lang.specs.Rules.{IsNetwork}
+use Rattle.net_lang.specs.LineRules.{SoFar, nothing_yet}
+use Rattle.net_lang.specs.Spelling.{may_end, AllStand, FirstBroken, SpellsNetwork, HasBadByte, BreaksFirst}
+use Rattle.net_lang.specs.Draft.{net_of, so_far, HasParts, IsSound, IsDraft}
+use Rattle.net_lang.specs.Outcome.{Names, IsCause}
+
+-- ---- a text has few lines
+
+some_bytes : (s : Style) (k : Option Kind) (bytes : List ℕ) → is_piece s k bytes ≡ true → 1 ≤ length bytes
+some_bytes s k [] h = absurd ((stops_at_end s).nothing (record { kind = k; bytes = [] }) (record { piece = h; after = []; split = refl }))
+some_bytes s k (b ∷ bytes) h = omega arith
+
+one_token : (k : Option Kind) (before bytes : List ℕ) (ts : List Token) → length (with_token k before bytes ts) ≤ length ts + 1
+one_token None before bytes ts = omega arith
+one_token (Some k) before bytes ts = omega arith
+
+few_tokens_of : (s : Style) (before after : List ℕ) (ps : List Piece) → AreLongest s ps after → length (tokens_of before ps) ≤ length (joined ps) + 1
+few_tokens_of s before after [] l = omega arith
+few_tokens_of s before after (p ∷ ps) l =
+    let a = one_token p.kind before p.bytes (tokens_of (before ++ p.bytes) ps) in
+    let b = few_tokens_of s (before ++ p.bytes) after ps l.1 in
+    let c = some_bytes s p.kind p.bytes l.0.begins.piece in
+    let d = length-append p.bytes (joined ps) in
+    omega (arith, a, b, c, d)
+
+few_tokens : (s : Style) (text : List ℕ) (ts : List Token) → AreTokens s text ts → length ts ≤ length text + 1
+few_tokens s text ts a =
+    let b = few_tokens_of s [] [] a.pieces a.longest in
+    let c = ap length a.listed in
+    let d = ap length a.split in
+    omega (arith, b, c, d)
+
+one_line : (text : List ℕ) (part : List Token) → length (line_of text part) ≤ 1
+one_line text [] = omega arith
+one_line text (t ∷ part) = omega arith
+
+few_lines_of : (text : List ℕ) (parts : List (List Token)) → length (flat_map (line_of text) parts) ≤ length parts
+few_lines_of text [] = omega arith
+few_lines_of text (part ∷ parts) =
+    let a = one_line text part in
+    let b = few_lines_of text parts in
+    let c = length-append (line_of text part) (flat_map (line_of text) parts) in
+    omega (arith, a, b, c)
+
+pub few_lines : (text : List ℕ) (ts : List Token) (all : List source.Line) → AreTokens style.Race text ts → map line all ≡ lines text ts → length text ≤ 1048576 → length all < 2 ^ 31
+few_lines text ts all a e h =
+    let p : Token → Bool = λ t. ends_line t.kind in
+    let b = few_tokens style.Race text ts a in
+    let c = few_lines_of text (slice_split p ts) in
+    let d = length-slice_split p ts in
+    let f = count_by-le-length p ts in
+    let g = ap length e in
+    let i = length-map all line in
+    omega (arith, b, c, d, f, g, i, h)
+
+-- ---- a draft that may end is a network
+
+at_outputs : (s : Stage) → may_end s ≡ true → s ≡ stage.Outputs
+at_outputs stage.Start e = absurd cc
+at_outputs stage.Header e = absurd cc
+at_outputs stage.Inputs e = absurd cc
+at_outputs stage.Lets e = absurd cc
+at_outputs stage.Outputs e = refl
+
+pub is_network : (d : kept.Draft) → IsDraft d → may_end d.stage ≡ true → IsNetwork (net_of d)
+is_network d h e =
+    let p : HasParts stage.Outputs (net_of d) = subst (λ (s : Stage). HasParts s (net_of d)) (at_outputs d.stage e) h.parts in
+    let s = h.sound in
+    record {
+      some_input = p.0; few_inputs = s.few_inputs; some_output = p.1; few_outputs = s.few_outputs; input_names = s.input_names; let_names = s.let_names; output_names = s.output_names; distinct = s.distinct;
+      lets_over = s.lets_over; outputs_over = s.outputs_over; few_joins = s.few_joins; few_delays = s.few_delays; shallow = s.shallow; short_lets = s.short_lets; short_outputs = s.short_outputs;
+    }
+
+pub spells : (text : List ℕ) (ts : List Token) (all : List source.Line) (d : kept.Draft) (n : Net) → AreTokens style.Race text ts → map line all ≡ lines text ts → AllStand nothing_yet (map line all) (so_far d) → may_end d.stage ≡ true → n ≡ net_of d → SpellsNetwork text n
+spells text ts all d n a e stand end is = record {
+  tokens = ts;
+  lexed = a;
+  last = so_far d;
+  stand = subst (λ (ls : List Line). AllStand nothing_yet ls (so_far d)) e stand;
+  ends = end;
+  network = is;
+}
+
+-- ---- the cause of an error
+
+pub end_line : (text : List ℕ) (end : ℕ) → end ≡ line_behind (take (length text) text) → end ≡ line_behind text
+end_line text end e = e ∙ ap line_behind (take_all (length text) text (omega arith))
+
+breaks : (text : List ℕ) (ts : List Token) (ls : List Line) (end : ℕ) → AreTokens style.Race text ts → ls ≡ lines text ts → end ≡ line_behind text → (r : Rule) (n : ℕ) → FirstBroken nothing_yet ls end r n → BreaksFirst text r n
+breaks text ts ls end a e g r n b = record { tokens = ts; lexed = a; first = subst (λ (k : ℕ). FirstBroken nothing_yet (lines text ts) k r n) g (subst (λ (l : List Line). FirstBroken nothing_yet l end r n) e b) }
+
+pub cause_of : (text : List ℕ) (ts : List Token) (ls : List Line) (end : ℕ) → AreTokens style.Race text ts → ls ≡ lines text ts → end ≡ line_behind text → (x : NetError) → Names x (FirstBroken nothing_yet ls end) → IsCause text x
+cause_of text ts ls end a e g (error.Syntax n) b = inr (breaks text ts ls end a e g rule.Syntax n b)
+cause_of text ts ls end a e g (error.Name n) b = breaks text ts ls end a e g rule.Name n b
+cause_of text ts ls end a e g (error.Span n) b = breaks text ts ls end a e g rule.Span n b
+cause_of text ts ls end a e g (error.Doubled n) b = breaks text ts ls end a e g rule.Doubled n b
+cause_of text ts ls end a e g (error.Unknown n) b = breaks text ts ls end a e g rule.Unknown n b
+cause_of text ts ls end a e g (error.Count n) b = breaks text ts ls end a e g rule.Count n b
+cause_of text ts ls end a e g error.NoMemory b = tt
+
+pub bad_cause : (text : List ℕ) (place line : ℕ) → IsBad style.Race text place → line ≡ line_behind (take place text) → HasBadByte text line ⊎ BreaksFirst text rule.Syntax line
+bad_cause text place line b e = inl (record { place = place; bad = b; number = e })
