@@ -16,3 +16,4 @@ pub mod Declaring
 pub mod Verdicts
 pub mod Lines
 pub mod Whole
+pub mod PrintedNetwork

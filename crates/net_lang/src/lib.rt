@@ -3,9 +3,11 @@
 
 mod ast;
 mod print;
+mod printed;
 mod reader;
 
 pub use ast::{Binding, Expr, Network};
 pub use print::print_network;
+pub use printed::printing_spells;
 pub use reader::{NetError, read_network};
 pub use rl_text::Name;
