@@ -10,3 +10,4 @@ pub mod Declaring
 pub mod Verdicts
 pub mod Lines
 pub mod Whole
+pub mod Laws
