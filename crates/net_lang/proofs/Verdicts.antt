@@ -74,12 +74,12 @@ header_kept d new h a e =
     let j : ltb 16384 (joins_in (net_of d)) ≡ false = le-ltb 16384 _ h.sound.few_joins in
     let k : ltb 16384 (delays_in (net_of d)) ≡ false = le-ltb 16384 _ h.sound.few_delays in
     (rw (i, o, j, k) refl, rw e (record { now = refl; draft = record { names = h.names; joins = h.joins; delays = h.delays; parts = none d.stage a h.parts; sound = h.sound } })) where
-  none : (s : Stage) → allows s Header ≡ true → HasParts s (net_of d) → HasParts stage.Header (net_of d)
-  none stage.Start a p = p
-  none stage.Header a p = absurd cc
-  none stage.Inputs a p = absurd cc
-  none stage.Lets a p = absurd cc
-  none stage.Outputs a p = absurd cc
+      none : (s : Stage) → allows s Header ≡ true → HasParts s (net_of d) → HasParts stage.Header (net_of d)
+      none stage.Start a p = p
+      none stage.Header a p = absurd cc
+      none stage.Inputs a p = absurd cc
+      none stage.Lets a p = absurd cc
+      none stage.Outputs a p = absurd cc
 
 -- ---- at most one answer
 

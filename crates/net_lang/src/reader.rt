@@ -19,3 +19,6 @@ mod written;
 pub use error::NetError;
 pub use laws::{no_cause, one_cause, one_network};
 pub use network::read_network;
+
+#[cfg(test)]
+mod tests;

@@ -8,24 +8,15 @@ ghost use Rattle.net_lang.specs.Outcome.{IsCause};
 
 /// A text spells at most one network.
 pub fn one_network()
-    ensures {
-        (text : List ℕ) (m n : Net) → SpellsNetwork text m → SpellsNetwork text n → m ≡ n
-    }
-{
-}
+    ensures { (text : List ℕ) (m n : Net) → SpellsNetwork text m → SpellsNetwork text n → m ≡ n }
+{}
 
 /// A text that spells a network has no cause of an error.
 pub fn no_cause()
-    ensures {
-        (text : List ℕ) (n : Net) (e : NetError) → SpellsNetwork text n → IsCause text e → e ≡ NoMemory
-    }
-{
-}
+    ensures { (text : List ℕ) (n : Net) (e : NetError) → SpellsNetwork text n → IsCause text e → e ≡ NoMemory }
+{}
 
 /// A text has at most one cause of an error.
 pub fn one_cause()
-    ensures {
-        (text : List ℕ) (e f : NetError) → IsCause text e → IsCause text f → e ≢ NoMemory → f ≢ NoMemory → e ≡ f
-    }
-{
-}
+    ensures { (text : List ℕ) (e f : NetError) → IsCause text e → IsCause text f → e ≢ NoMemory → f ≢ NoMemory → e ≡ f }
+{}
