@@ -17,3 +17,4 @@ pub mod Verdicts
 pub mod Lines
 pub mod Whole
 pub mod PrintedNetwork
+pub mod Laws

@@ -47,7 +47,7 @@ equation_code =
 abbrev pub net_code : Coded Net
 net_code =
     code_by (List (List ℕ) × (List Equation × List Equation))
-        (coded× (coded_list (coded_list coded_ℕ)) (coded× (coded_list equation_code) (coded_list equation_code)))
-        (λ n. (n.inputs, (n.lets, n.outputs)))
-        (λ p. record { inputs = p.0; lets = p.1.0; outputs = p.1.1 })
-        (λ _. refl)
+    (coded× (coded_list (coded_list coded_ℕ)) (coded× (coded_list equation_code) (coded_list equation_code)))
+    (λ n. (n.inputs, (n.lets, n.outputs)))
+    (λ p. record { inputs = p.0; lets = p.1.0; outputs = p.1.1 })
+    (λ _. refl)

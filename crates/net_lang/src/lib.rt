@@ -9,5 +9,5 @@ mod reader;
 pub use ast::{Binding, Expr, Network};
 pub use print::print_network;
 pub use printed::printing_spells;
-pub use reader::{NetError, read_network};
+pub use reader::{NetError, no_cause, one_cause, one_network, read_network};
 pub use rl_text::Name;
