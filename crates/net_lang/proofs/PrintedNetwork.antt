@@ -8,13 +8,17 @@ use Rattle.rl_text.specs.Names.{is_name}
 use Rattle.rl_text.specs.Lines.{Word, Line, lines}
 use Rattle.net_lang.specs.declared.reader.rules.Stage.{Stage}
 use Rattle.net_lang.specs.declared.reader.rules.Stage.TheVariants as stage
+use Rattle.net_lang.specs.declared.reader.error.NetError.{NetError}
+use Rattle.net_lang.specs.declared.reader.error.NetError.TheVariants.{NoMemory}
 use Rattle.net_lang.specs.Formula.{Formula, Equation, Net, net}
 use Rattle.net_lang.specs.Rules.{is_let_name, is_port_name, are_distinct, names_of, joins, delays, IsNetwork}
 use Rattle.net_lang.specs.Forms.{Form, Header, Inputs, Let, Output, IsFormed}
 use Rattle.net_lang.specs.LineRules.{SoFar, nothing_yet, allows, after, extended, first_rule, has_too_many, joins_in, delays_in, some_twice}
 use Rattle.net_lang.specs.Spelling.{SpellsNetwork}
+use Rattle.net_lang.specs.Outcome.{IsCause}
 use Rattle.net_lang.specs.Text.{network_text}
 use Rattle.net_lang.proofs.Sound.{Keeps}
+use Rattle.net_lang.proofs.Laws.{one_network, no_cause}
 use Rattle.net_lang.proofs.PrintedPieces.{Reads, HasWords, has_words, end_word}
 use Rattle.net_lang.proofs.PrintedWords.{written, let_form, output_form, forms, words_on, let_name_is, reads_network}
 use Rattle.net_lang.proofs.PrintedLines.{cut, lines_words, cut_forms, AllKeep, all_stand}
@@ -147,3 +151,9 @@ printed n h =
       ends = refl;
       network = refl;
     }
+
+pub one_printed : (n m : Net) → IsNetwork n → SpellsNetwork (network_text n) m → m ≡ n
+one_printed n m h s = one_network (network_text n) m n s (printed n h)
+
+pub no_printed_cause : (n : Net) (e : NetError) → IsNetwork n → IsCause (network_text n) e → e ≡ NoMemory
+no_printed_cause n e h c = no_cause (network_text n) n e (printed n h) c

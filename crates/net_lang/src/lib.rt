@@ -8,6 +8,6 @@ mod reader;
 
 pub use ast::{Binding, Expr, Network};
 pub use print::print_network;
-pub use printed::printing_spells;
+pub use printed::{printing_is_read, printing_spells};
 pub use reader::{NetError, no_cause, one_cause, one_network, read_network};
 pub use rl_text::Name;
