@@ -1,12 +1,12 @@
 -- The lines of a text by its words, and what it takes for them to stand.
-use Rattle.std.proofs.Common.{◌≡◌, ℕ, Bool, true, false, cond, not, ◌&&◌, List, [], ◌∷◌, ◌++◌, map, Option, Some, None, refl, sym, ap, ◌∙◌}
+use Rattle.std.proofs.Common.{◌≡◌, ℕ, Bool, true, false, cond, not, List, [], ◌∷◌, ◌++◌, map, None, refl, sym, ap, ◌∙◌}
 use Rattle.std.specs.Prelude.{codes, flat_map}
 use Rattle.std.specs.List.{list_all, slice_split, onto_first}
 use Rattle.std.proofs.lemmas.Bool.{and_parts, and_from, not-true}
 use Rattle.std.proofs.lemmas.List.Folds.{list_all-append}
 use Rattle.rl_text.specs.declared.token.Token.{Token}
 use Rattle.rl_text.specs.Lines.{Word, word_of, words_of, ends_line, Line, line_of, lines}
-use Rattle.net_lang.specs.Grammar.{Expression, Never, Name, Min, Max, Lt, Inc, name, number, sign, open_, comma, close, spelled}
+use Rattle.net_lang.specs.Grammar.{Expression, Never, Name, Min, Max, Lt, Inc, name, number, open_, comma, close, spelled}
 use Rattle.net_lang.specs.Forms.{Form, Header, Inputs, Let, Output, spelled_form, IsFormed}
 use Rattle.net_lang.specs.LineRules.{SoFar, allows, after, first_rule}
 use Rattle.net_lang.specs.Spelling.{AllStand}
@@ -35,7 +35,7 @@ split_words : (text : List ℕ) (ts : List Token) → parts (words_of text ts) �
 split_words text [] = refl
 split_words text (t ∷ ts) = turn (ends_line t.kind) (split_words text ts) where
   turn : (b : Bool) → parts (words_of text ts) ≡ map (words_of text) (token_parts ts)
-    → cond b ([] ∷ parts (words_of text ts)) (onto_first (word_of text t) (parts (words_of text ts))) ≡ map (words_of text) (cond b ([] ∷ token_parts ts) (onto_first t (token_parts ts)))
+      → cond b ([] ∷ parts (words_of text ts)) (onto_first (word_of text t) (parts (words_of text ts))) ≡ map (words_of text) (cond b ([] ∷ token_parts ts) (onto_first t (token_parts ts)))
   turn true e = ap (λ (x : List (List Word)). [] ∷ x) e
   turn false e = ap (onto_first (word_of text t)) e ∙ onto_words text t (token_parts ts)
 

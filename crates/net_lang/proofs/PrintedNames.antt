@@ -1,10 +1,10 @@
 -- The names of a printing stand for what was printed.
-use Rattle.std.proofs.Common.{◌≡◌, ℕ, zero, suc, ◌+◌, ◌≤◌, ◌<◌, Bool, true, false, not, ◌&&◌, ◌||◌, List, [], ◌∷◌, ◌++◌, length, Option, Some, None, refl, sym, ap, subst, ◌∙◌, arith}
-use Rattle.std.specs.Prelude.{is_some, slice_index_or, decimal, max}
+use Rattle.std.proofs.Common.{◌≡◌, ℕ, zero, suc, ◌+◌, ◌≤◌, ◌<◌, Bool, true, false, not, ◌||◌, List, [], ◌∷◌, ◌++◌, length, Some, None, refl, sym, ap, ◌∙◌, arith}
+use Rattle.std.specs.Prelude.{is_some, slice_index_or}
 use Rattle.std.specs.List.{list_any, list_all}
 use Rattle.std.specs.Str.{bytes_eq}
 use Rattle.std.proofs.lemmas.Bool.{and_parts, and_from, or_parts, or_left, or_right, not-true}
-use Rattle.std.proofs.lemmas.List.{get_or_append_left, length-map}
+use Rattle.std.proofs.lemmas.List.{get_or_append_left}
 use Rattle.std.proofs.lemmas.List.Folds.{list_any-append}
 use Rattle.std.proofs.lemmas.Slice.Eq.{bytes_eq-Decides}
 use Rattle.net_lang.specs.Formula as f
@@ -13,7 +13,7 @@ use Rattle.net_lang.specs.Rules.{is_let_name, are_distinct, names_of, IsOver, sp
 use Rattle.net_lang.specs.Names.{place_from, place_of, named, resolved, knows}
 use Rattle.net_lang.proofs.Knowing.{no_place, place_any, eq_comm}
 use Rattle.net_lang.proofs.PrintedWords.{written, IsPrintable}
-use Rattle.net_lang.proofs.PrintedDigits.{IsConstant, decimal_is}
+use Rattle.net_lang.proofs.PrintedDigits.{decimal_is}
 
 -- ---- distinct names
 

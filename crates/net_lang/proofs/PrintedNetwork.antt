@@ -1,29 +1,28 @@
 -- The printing of a network spells it.
-use Rattle.std.proofs.Common.{◌≡◌, ◌≢◌, ℕ, ◌≤◌, Bool, true, false, not, ◌&&◌, ◌||◌, List, [], ◌∷◌, ◌++◌, length, map, Option, Some, None, refl, sym, ap, subst, ◌∙◌, append_assoc, arith}
-use Rattle.std.specs.List.{list_any, list_all, AllByRecursion}
+use Rattle.std.proofs.Common.{◌≡◌, ◌≢◌, ℕ, ◌≤◌, Bool, true, false, not, List, [], ◌∷◌, ◌++◌, length, map, None, refl, sym, ap, subst, ◌∙◌, append_assoc, arith}
+use Rattle.std.specs.List.{list_any, list_all}
 use Rattle.std.specs.Str.{bytes_eq}
 use Rattle.std.proofs.lemmas.Bool.{and_parts, and_from}
 use Rattle.std.proofs.lemmas.List.{append-nil}
 use Rattle.rl_text.specs.Names.{is_name}
-use Rattle.rl_text.specs.Lines.{Word, Line, lines}
+use Rattle.rl_text.specs.Lines.{lines}
 use Rattle.net_lang.specs.declared.reader.rules.Stage.{Stage}
 use Rattle.net_lang.specs.declared.reader.rules.Stage.TheVariants as stage
 use Rattle.net_lang.specs.declared.reader.error.NetError.{NetError}
 use Rattle.net_lang.specs.declared.reader.error.NetError.TheVariants.{NoMemory}
-use Rattle.net_lang.specs.Formula.{Formula, Equation, Net, net}
-use Rattle.net_lang.specs.Rules.{is_let_name, is_port_name, are_distinct, names_of, joins, delays, IsNetwork}
-use Rattle.net_lang.specs.Forms.{Form, Header, Inputs, Let, Output, IsFormed}
-use Rattle.net_lang.specs.LineRules.{SoFar, nothing_yet, allows, after, extended, first_rule, has_too_many, joins_in, delays_in, some_twice}
+use Rattle.net_lang.specs.Formula.{Equation, Net, net}
+use Rattle.net_lang.specs.Rules.{is_let_name, are_distinct, names_of, IsNetwork}
+use Rattle.net_lang.specs.Forms.{Header, Inputs}
+use Rattle.net_lang.specs.LineRules.{SoFar, nothing_yet, allows, first_rule, some_twice}
 use Rattle.net_lang.specs.Spelling.{SpellsNetwork}
 use Rattle.net_lang.specs.Outcome.{IsCause}
 use Rattle.net_lang.specs.Text.{network_text}
-use Rattle.net_lang.proofs.Sound.{Keeps}
 use Rattle.net_lang.proofs.Laws.{one_network, no_cause}
-use Rattle.net_lang.proofs.PrintedPieces.{Reads, HasWords, has_words, end_word}
-use Rattle.net_lang.proofs.PrintedWords.{written, let_form, output_form, forms, words_on, let_name_is, reads_network}
+use Rattle.net_lang.proofs.PrintedPieces.{has_words}
+use Rattle.net_lang.proofs.PrintedWords.{let_form, output_form, forms, words_on, let_name_is, reads_network}
 use Rattle.net_lang.proofs.PrintedLines.{cut, lines_words, cut_forms, AllKeep, all_stand}
 use Rattle.net_lang.proofs.PrintedNames.{distinct_front, apart}
-use Rattle.net_lang.proofs.PrintedRules.{kept, few, IsNext, is_formed, let_extends, output_extends, let_kept, output_kept, next_let, next_output, few_lets, few_outputs, let_name_here, output_name_here, lets_have_names, outputs_have_names, ports_are_lets}
+use Rattle.net_lang.proofs.PrintedRules.{kept, few, is_formed, let_extends, output_extends, let_kept, output_kept, next_let, next_output, few_lets, few_outputs, let_name_here, output_name_here, lets_have_names, outputs_have_names, ports_are_lets}
 
 -- ---- the first two lines
 
@@ -102,10 +101,13 @@ outputs_keep n h done (e ∷ os) s may q end =
     let m = net n.inputs n.lets done in
     let next = next_output n done e os h q in
     let more : n.outputs ≡ (done ++ e ∷ []) ++ os = q ∙ sym (append_assoc done (e ∷ []) os) in
-    let rule = output_kept m (names_of n.lets) e next (output_name_here n done e os h q) (few_outputs n (done ++ e ∷ []) os h more) in
-    (is_formed m (names_of n.lets) e next, takes_output s e n.inputs (names_of n.lets) may, rule,
+    let rule = output_kept m (names_of n.lets) e next (output_name_here n done e os h q) (few_outputs n (done ++ e ∷ []) os h more) in (
+      is_formed m (names_of n.lets) e next,
+      takes_output s e n.inputs (names_of n.lets) may,
+      rule,
       subst (λ (x : Net). AllKeep (place stage.Outputs x) (map (output_form n.inputs (names_of n.lets)) os) (place stage.Outputs n)) (sym (output_extends m (names_of n.lets) e next))
-      (outputs_keep n h (done ++ e ∷ []) os stage.Outputs refl more (λ _. refl)))
+          (outputs_keep n h (done ++ e ∷ []) os stage.Outputs refl more (λ _. refl)),
+    )
 
 some_outputs : (xs : List Equation) → 1 ≤ length xs → xs ≡ [] → (s : Stage) → s ≡ stage.Outputs
 some_outputs [] h e s = absurd (omega (arith, h))
@@ -122,10 +124,13 @@ lets_keep n h done (e ∷ ls) s o q =
     let m = net n.inputs done [] in
     let next = next_let n done e ls h q in
     let more : n.lets ≡ (done ++ e ∷ []) ++ ls = q ∙ sym (append_assoc done (e ∷ []) ls) in
-    let rule = let_kept m (names_of n.lets) e next (let_name_here n done e ls h q) (few_lets n (done ++ e ∷ []) ls h more) in
-    (is_formed m (names_of n.lets) e next, takes_let s e n.inputs (names_of n.lets) o, rule,
+    let rule = let_kept m (names_of n.lets) e next (let_name_here n done e ls h q) (few_lets n (done ++ e ∷ []) ls h more) in (
+      is_formed m (names_of n.lets) e next,
+      takes_let s e n.inputs (names_of n.lets) o,
+      rule,
       subst (λ (x : Net). AllKeep (place stage.Lets x) (map (let_form n.inputs (names_of n.lets)) ls ++ map (output_form n.inputs (names_of n.lets)) n.outputs) (place stage.Outputs n)) (sym (let_extends m (names_of n.lets) e next))
-      (lets_keep n h (done ++ e ∷ []) ls stage.Lets refl more))
+          (lets_keep n h (done ++ e ∷ []) ls stage.Lets refl more),
+    )
 
 all_keep : (n : Net) → IsNetwork n → AllKeep nothing_yet (forms n) (place stage.Outputs n)
 unfolding is_open

@@ -1,5 +1,5 @@
 -- Texts that fall into pieces, taken from their end on, and the words of the pieces.
-use Rattle.std.proofs.Common.{◌≡◌, ℕ, suc, ◌+◌, ◌-◌, ◌≤◌, Bool, true, false, cond, not, ◌&&◌, List, [], ◌∷◌, ◌++◌, length, take, drop, Option, Some, None, refl, sym, ap, subst, ◌∙◌, arith}
+use Rattle.std.proofs.Common.{◌≡◌, ℕ, ◌+◌, ◌-◌, Bool, true, false, not, List, [], ◌∷◌, ◌++◌, length, Option, Some, None, refl, sym, ap, subst, ◌∙◌, arith}
 use Rattle.std.specs.Prelude.{codes, slice_range}
 use Rattle.std.specs.List.{prefix_len, list_all}
 use Rattle.std.proofs.lemmas.List.{append-nil, append_assoc, take_at, drop_at}
@@ -151,9 +151,9 @@ words_are text before (p ∷ ps) e =
     word_more p.kind text before p.bytes (joined ps) (tokens_of (before ++ p.bytes) ps) e
     ∙ ap (with_word p.kind p.bytes) (words_are text (before ++ p.bytes) ps (e ∙ sym (append_assoc before p.bytes (joined ps))))
     ∙ put p.kind p.bytes (words_in ps) where
-  put : (k : Option Kind) (bytes : List ℕ) (ws : List Word) → with_word k bytes (ws ++ end_word ∷ []) ≡ with_word k bytes ws ++ end_word ∷ []
-  put None bytes ws = refl
-  put (Some k) bytes ws = refl
+      put : (k : Option Kind) (bytes : List ℕ) (ws : List Word) → with_word k bytes (ws ++ end_word ∷ []) ≡ with_word k bytes ws ++ end_word ∷ []
+      put None bytes ws = refl
+      put (Some k) bytes ws = refl
 
 -- the text has tokens, with these words and that of the end
 pub record HasWords (text : List ℕ) (ws : List Word) : Type 0 where

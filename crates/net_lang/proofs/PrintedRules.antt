@@ -1,5 +1,5 @@
 -- The lines of a printing break no rule.
-use Rattle.std.proofs.Common.{◌≡◌, ℕ, zero, suc, ◌+◌, ◌≤◌, ◌<◌, Bool, true, false, not, ◌&&◌, ◌||◌, ltb, List, [], ◌∷◌, ◌++◌, length, map, Option, Some, None, refl, sym, ap, subst, ◌∙◌, append_assoc, arith}
+use Rattle.std.proofs.Common.{◌≡◌, ℕ, suc, ◌+◌, ◌≤◌, Bool, true, false, not, ◌||◌, ltb, List, [], ◌∷◌, ◌++◌, length, map, None, refl, sym, ap, subst, ◌∙◌, append_assoc, arith}
 use Rattle.std.specs.Prelude.{fold, sum_by}
 use Rattle.std.specs.List.{list_any, list_all, AllByRecursion}
 use Rattle.std.specs.Str.{bytes_eq}
@@ -8,12 +8,12 @@ use Rattle.std.proofs.lemmas.List.{append-nil, map-append, length-append, length
 use Rattle.std.proofs.lemmas.List.Folds.{list_all-append}
 use Rattle.std.proofs.lemmas.List.Sums.{fold-append, sum_by-append}
 use Rattle.net_lang.specs.Formula.{Formula, Equation, Net, net}
-use Rattle.net_lang.specs.Rules.{is_let_name, is_port_name, begins_with_underscore, are_distinct, names_of, declared_names, equations, joins, delays, nesting, span, IsOver, AreLets, let_spans, output_spans, IsNetwork}
-use Rattle.net_lang.specs.Grammar.{Expression, IsWritten, written_nesting}
-use Rattle.net_lang.specs.Names.{resolved, knows}
-use Rattle.net_lang.specs.Forms.{Form, Header, Inputs, Let, Output, IsFormed}
-use Rattle.net_lang.specs.LineRules.{equation, extended, has_bad_name, has_doubled_name, has_unknown_name, has_too_many, is_too_late, some_twice, joins_in, delays_in, is_over, body_span, first_of, first_rule}
-use Rattle.net_lang.proofs.Knowing.{resolved_nesting, let_spans_more, names_more, or_false}
+use Rattle.net_lang.specs.Rules.{is_let_name, is_port_name, begins_with_underscore, are_distinct, names_of, declared_names, joins, delays, nesting, span, IsOver, AreLets, let_spans, IsNetwork}
+use Rattle.net_lang.specs.Grammar.{IsWritten, written_nesting}
+use Rattle.net_lang.specs.Names.{resolved}
+use Rattle.net_lang.specs.Forms.{Form}
+use Rattle.net_lang.specs.LineRules.{extended, has_too_many, joins_in, delays_in, body_span, first_of, first_rule}
+use Rattle.net_lang.proofs.Knowing.{resolved_nesting, let_spans_more, or_false}
 use Rattle.net_lang.proofs.Sound.{Keeps}
 use Rattle.net_lang.proofs.PrintedWords.{written, IsPrintable, is_written, let_form, output_form, HasNames, let_name_is}
 use Rattle.net_lang.proofs.PrintedNames.{distinct_front, apart, IsScope, scope, resolves, all_known, printable}

@@ -1,5 +1,5 @@
 -- The words of the printing of a network: those of its lines, each with a newline behind it.
-use Rattle.std.proofs.Common.{◌≡◌, ℕ, suc, ◌+◌, ◌≤◌, ◌<◌, Bool, true, false, not, ◌&&◌, List, [], ◌∷◌, ◌++◌, length, map, refl, sym, ap, subst, ◌∙◌, append_assoc, arith}
+use Rattle.std.proofs.Common.{◌≡◌, ℕ, ◌≤◌, true, false, not, List, [], ◌∷◌, ◌++◌, map, refl, sym, ap, subst, ◌∙◌, append_assoc}
 use Rattle.std.specs.Prelude.{codes, decimal, flat_map, slice_index_or}
 use Rattle.std.specs.List.{list_all, AllByRecursion}
 use Rattle.std.proofs.lemmas.List.{append-nil}
@@ -13,7 +13,7 @@ use Rattle.net_lang.specs.Grammar.{Expression, Never, Name, Min, Max, Lt, Inc, n
 use Rattle.net_lang.specs.Forms.{Form, Header, Inputs, Let, Output, spelled_form}
 use Rattle.net_lang.specs.Text.{call_text, formula_text, equation_text, equations_text, spaced_names, network_text}
 use Rattle.net_lang.proofs.PrintedPieces.{Reads, reads_nothing, stops, reads_name, reads_number, newline, reads_open, reads_close, reads_comma, reads_equals, reads_space, reads_newline}
-use Rattle.net_lang.proofs.PrintedDigits.{IsConstant, decimal_is}
+use Rattle.net_lang.proofs.PrintedDigits.{decimal_is}
 
 -- a formula as it is printed, by the names of the inputs and of the lets
 abbrev pub written : List (List ℕ) → List (List ℕ) → Formula → Expression
@@ -135,7 +135,7 @@ reads_lets inputs lets (e ∷ es) rest ws h r =
     let more = reads_equation (codes "let") inputs lets e (equations_text (codes "let ") inputs lets es ++ rest) (words_on (map (let_form inputs lets) es) ++ ws) refl h.0 (reads_lets inputs lets es rest ws h.1 r) in
     subst (λ (t : List ℕ). Reads t (words_on (map (let_form inputs lets) (e ∷ es)) ++ ws)) (sym (append_assoc (equation_text (codes "let ") inputs lets e) (equations_text (codes "let ") inputs lets es) rest))
     (subst (λ (x : List Word). Reads (equation_text (codes "let ") inputs lets e ++ (equations_text (codes "let ") inputs lets es ++ rest)) x)
-      (sym (line_words (spelled_form (let_form inputs lets e)) (words_on (map (let_form inputs lets) es)) newline ws)) more)
+    (sym (line_words (spelled_form (let_form inputs lets e)) (words_on (map (let_form inputs lets) es)) newline ws)) more)
 
 reads_outputs : (inputs lets : List (List ℕ)) (es : List Equation) (rest : List ℕ) (ws : List Word) → AllByRecursion (HasNames inputs lets) es → Reads rest ws
     → Reads (equations_text (codes "output ") inputs lets es ++ rest) (words_on (map (output_form inputs lets) es) ++ ws)
@@ -144,7 +144,7 @@ reads_outputs inputs lets (e ∷ es) rest ws h r =
     let more = reads_equation (codes "output") inputs lets e (equations_text (codes "output ") inputs lets es ++ rest) (words_on (map (output_form inputs lets) es) ++ ws) refl h.0 (reads_outputs inputs lets es rest ws h.1 r) in
     subst (λ (t : List ℕ). Reads t (words_on (map (output_form inputs lets) (e ∷ es)) ++ ws)) (sym (append_assoc (equation_text (codes "output ") inputs lets e) (equations_text (codes "output ") inputs lets es) rest))
     (subst (λ (x : List Word). Reads (equation_text (codes "output ") inputs lets e ++ (equations_text (codes "output ") inputs lets es ++ rest)) x)
-      (sym (line_words (spelled_form (output_form inputs lets e)) (words_on (map (output_form inputs lets) es)) newline ws)) more)
+    (sym (line_words (spelled_form (output_form inputs lets e)) (words_on (map (output_form inputs lets) es)) newline ws)) more)
 
 names_stop : (names : List (List ℕ)) (rest : List ℕ) → stops rest ≡ true → stops (spaced_names names ++ rest) ≡ true
 names_stop [] rest s = s
@@ -195,6 +195,6 @@ reads_network n ins lets outs =
     let middle = reads_lets n.inputs names n.lets (ot ++ []) (words_on os ++ []) lets last in
     let all = reads_head n.inputs (lt ++ (ot ++ [])) (words_on ls ++ (words_on os ++ [])) ins middle in
     let same : name (codes "racenet") ∷ number (codes "1") ∷ newline ∷ name (codes "input") ∷ (map name n.inputs ++ (newline ∷ (words_on ls ++ (words_on os ++ [])))) ≡ words_on (forms n) =
-      network_words (map name n.inputs) (words_on ls) (words_on os)
-      ∙ ap (λ (ws : List Word). (spelled_form Header ++ newline ∷ []) ++ ((spelled_form (Inputs n.inputs) ++ newline ∷ []) ++ ws)) (sym (words_on-append ls os)) in
+    network_words (map name n.inputs) (words_on ls) (words_on os)
+    ∙ ap (λ (ws : List Word). (spelled_form Header ++ newline ∷ []) ++ ((spelled_form (Inputs n.inputs) ++ newline ∷ []) ++ ws)) (sym (words_on-append ls os)) in
     subst (λ (t : List ℕ). Reads t (words_on (forms n))) (sym (network_bytes (spaced_names n.inputs) lt ot)) (subst (λ (ws : List Word). Reads (codes "racenet 1\ninput" ++ (spaced_names n.inputs ++ (10 ∷ (lt ++ (ot ++ []))))) ws) same all)
