@@ -75,7 +75,7 @@ module _ (s : source.Scope) (old inputs : List (List ℕ)) (names : List (Bor (L
       → AddsName s new (get_or names i d).now (known (place.Input at) 0) → more ≡ inputs ++ (get_or names i d).now ∷ [] → Declaring new old (all_now names) more (all_now (drop (i + 1) names))
   turn new more at o test e f g a adds m =
       goes_on s new old (all_now names) inputs (all_now (drop (i + 1) names)) more (get_or names i d).now at_name (ap is_some (sym e) ∙ sym f ∙ g)
-        (subst (λ (k : ℕ). AddsName s new (get_or names i d).now (known (place.Input k) 0)) a adds) m
+      (subst (λ (k : ℕ). AddsName s new (get_or names i d).now (known (place.Input k) 0)) a adds) m
 
   pub found : (o : Option Known) (test : Bool) → o ≡ find s (get_or names i d).now → test ≡ is_some o → test ≡ true → some_twice old (all_now names) ≡ true
   found o test e f g = stops s old (all_now names) inputs (all_now (drop (i + 1) names)) (get_or names i d).now at_name (ap is_some (sym e) ∙ sym f ∙ g)
@@ -124,9 +124,9 @@ module _ (d : kept.Draft) (names : List (List ℕ)) (h : IsDraft d) (a : allows 
       let j : ltb 16384 (joins_in (net_of d)) ≡ false = le-ltb 16384 _ h.sound.few_joins in
       let k : ltb 16384 (delays_in (net_of d)) ≡ false = le-ltb 16384 _ h.sound.few_delays in
       (λ i. ltb 64 (sym c i) || o i || j i || k i) ∙ flat (ltb 64 count) where
-    flat : (b : Bool) → (b || false || false || false) ≡ b
-    flat true = refl
-    flat false = refl
+        flat : (b : Bool) → (b || false || false || false) ≡ b
+        flat true = refl
+        flat false = refl
 
   pub many_broken : (count : ℕ) → has_bad_name (Inputs names) ≡ false → some_twice d.inputs.items names ≡ false → count ≡ length (d.inputs.items ++ names) → 64 < count → first_rule (net_of d) (Inputs names) ≡ Some rule.Count
   many_broken count g t c lt = count_broken (net_of d) names g (doubled_is ∙ t) (many_is count c ∙ lt-ltb 64 count lt)
@@ -140,17 +140,19 @@ module _ (d : kept.Draft) (names : List (List ℕ)) (h : IsDraft d) (a : allows 
       let rule_kept : first_rule n f ≡ None = inputs_keep n names g (doubled_is ∙ t) (many_is count c ∙ le-ltb 64 count le) in
       let p = parts_inputs d.stage n names a h.parts in
       let same : net_of new ≡ extended n f = λ i. net (ins i) (lets i) (outs i) in
-      let few : 1 ≤ length (d.inputs.items ++ names) = let s = some_length names some in let l = length-append d.inputs.items names in omega (arith, s, l) in
-      (rule_kept, record {
-        now = λ i. record { stage = last i; net = same i };
-        draft = record {
-          names = λ u. known u ∙ (λ i. known_in (net new.inputs.items (sym (lets ∙ p.0) i) (sym (outs ∙ p.1) i)) u);
-          joins = js ∙ h.joins ∙ ap joins_in (sym same);
-          delays = ds ∙ h.delays ∙ ap delays_in (sym same);
-          parts = subst (λ (x : Net). HasParts new.stage x) (sym same) (subst (λ (s : Stage). HasParts s (extended n f)) (sym last) (few, p.0, p.1));
-          sound = subst IsSound (sym same) (sound_inputs n names h.sound p.0 p.1 (keeps n f rule_kept));
-        };
-      })
+      let few : 1 ≤ length (d.inputs.items ++ names) = let s = some_length names some in let l = length-append d.inputs.items names in omega (arith, s, l) in (
+        rule_kept,
+        record {
+          now = λ i. record { stage = last i; net = same i };
+          draft = record {
+            names = λ u. known u ∙ (λ i. known_in (net new.inputs.items (sym (lets ∙ p.0) i) (sym (outs ∙ p.1) i)) u);
+            joins = js ∙ h.joins ∙ ap joins_in (sym same);
+            delays = ds ∙ h.delays ∙ ap delays_in (sym same);
+            parts = subst (λ (x : Net). HasParts new.stage x) (sym same) (subst (λ (s : Stage). HasParts s (extended n f)) (sym last) (few, p.0, p.1));
+            sound = subst IsSound (sym same) (sound_inputs n names h.sound p.0 p.1 (keeps n f rule_kept));
+          };
+        },
+      )
 
 pub not_fresh : (old all new : List (List ℕ)) (s : source.Scope) (b : Bool) → b ≡ false → Declares old all s new b → some_twice old all ≡ true
 not_fresh old all new s b e d = subst (Declares old all s new) e d

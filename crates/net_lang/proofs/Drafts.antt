@@ -48,8 +48,8 @@ small_known : (n : Net) → IsSound n → length n.lets < 2 ^ 31 → IsSmall (kn
 small_known n h few = record {
   spans = λ t. small_span (place_of t n.inputs) (place_of t (names_of n.lets)) (list_any (bytes_eq t) (names_of n.outputs)) (let_spans n.lets) h.short_lets;
   places = λ t. small_place (place_of t n.inputs) (place_of t (names_of n.lets)) (list_any (bytes_eq t) (names_of n.outputs)) (let_spans n.lets)
-    (λ k e. let b = place_low 0 k t n.inputs e in let c = h.few_inputs in omega (arith, b.1, c))
-    (λ k e. let b = place_low 0 k t (names_of n.lets) e in let l = length-map n.lets (λ (x : Equation). x.name) in omega (arith, b.1, l, few));
+      (λ k e. let b = place_low 0 k t n.inputs e in let c = h.few_inputs in omega (arith, b.1, c))
+      (λ k e. let b = place_low 0 k t (names_of n.lets) e in let l = length-map n.lets (λ (x : Equation). x.name) in omega (arith, b.1, l, few));
 }
 
 looks : (d : source.Draft) → IsDraft d → find d.scope ≡ known_in (net_of d)

@@ -167,14 +167,14 @@ pub resolved_over : (n : Net) (t : Expression) → knows n t ≡ true → IsOver
 resolved_over n Never h = tt
 resolved_over n (Name t) h =
     let both : (is_some (place_of t n.inputs) || is_some (place_of t (names_of n.lets))) ≡ list_any (bytes_eq t) (n.inputs ++ names_of n.lets) =
-      (λ i. place_any 0 t n.inputs i || place_any 0 t (names_of n.lets) i) ∙ sym (list_any-append (bytes_eq t) n.inputs (names_of n.lets)) in
+    (λ i. place_any 0 t n.inputs i || place_any 0 t (names_of n.lets) i) ∙ sym (list_any-append (bytes_eq t) n.inputs (names_of n.lets)) in
     over (place_of t n.inputs) (place_of t (names_of n.lets)) refl refl (both ∙ h) where
-  over : (i j : Option ℕ) → place_of t n.inputs ≡ i → place_of t (names_of n.lets) ≡ j → (is_some (place_of t n.inputs) || is_some (place_of t (names_of n.lets))) ≡ true → IsOver (length n.inputs) (length n.lets) (named i j)
-  over (Some i) j e g k = let b = place_low 0 i t n.inputs e in omega (arith, b.1)
-  over None (Some j) e g k = let b = place_low 0 j t (names_of n.lets) g in let l = length-map n.lets (λ (x : Equation). x.name) in omega (arith, b.1, l)
-  over None None e g k = absurd (apart (sym ((λ i. is_some (e i) || is_some (g i))) ∙ k)) where
-    apart : false ≡ true → ⊥
-    apart x = cc
+      over : (i j : Option ℕ) → place_of t n.inputs ≡ i → place_of t (names_of n.lets) ≡ j → (is_some (place_of t n.inputs) || is_some (place_of t (names_of n.lets))) ≡ true → IsOver (length n.inputs) (length n.lets) (named i j)
+      over (Some i) j e g k = let b = place_low 0 i t n.inputs e in omega (arith, b.1)
+      over None (Some j) e g k = let b = place_low 0 j t (names_of n.lets) g in let l = length-map n.lets (λ (x : Equation). x.name) in omega (arith, b.1, l)
+      over None None e g k = absurd (apart (sym ((λ i. is_some (e i) || is_some (g i))) ∙ k)) where
+        apart : false ≡ true → ⊥
+        apart x = cc
 resolved_over n (Min a b) h = let p = and_parts (knows n a) (knows n b) h in (resolved_over n a p.0, resolved_over n b p.1)
 resolved_over n (Max a b) h = let p = and_parts (knows n a) (knows n b) h in (resolved_over n a p.0, resolved_over n b p.1)
 resolved_over n (Lt a b) h = let p = and_parts (knows n a) (knows n b) h in (resolved_over n a p.0, resolved_over n b p.1)
@@ -239,13 +239,13 @@ known_let n e s new is u =
     let places = length-map n.lets (λ (x : Equation). x.name) in
     let P : List ℕ → Bool → Type 0 = λ v b. cond b (Some (known (place.Let (length n.lets)) s)) (known_in n v) ≡ known_by (place_of v n.inputs) (place_of v (names_of n.lets ++ e.name ∷ [])) (list_any (bytes_eq v) (names_of n.outputs)) (spans ++ s ∷ []) in
     let first : P e.name true =
-      let z : 0 + length (names_of n.lets) ≡ length n.lets = omega (arith, places) in
-      rw (no_place 0 e.name n.inputs new.inputs, place_new 0 e.name (names_of n.lets) new.lets, z)
-        (ap (λ (k : ℕ). Some (known (place.Let (length n.lets)) k)) (sym (get_or_at spans s [] 0 (length n.lets) len))) in
+    let z : 0 + length (names_of n.lets) ≡ length n.lets = omega (arith, places) in
+    rw (no_place 0 e.name n.inputs new.inputs, place_new 0 e.name (names_of n.lets) new.lets, z)
+    (ap (λ (k : ℕ). Some (known (place.Let (length n.lets)) k)) (sym (get_or_at spans s [] 0 (length n.lets) len))) in
     let other : bytes_eq u e.name ≡ false → P u false = λ h.
-      rw (place_kept 0 u e.name (names_of n.lets) h)
-        (more_spans (place_of u n.inputs) (place_of u (names_of n.lets)) (list_any (bytes_eq u) (names_of n.outputs)) spans s
-          (λ k g. let b = place_low 0 k u (names_of n.lets) g in omega (arith, b.1, places, len))) in
+    rw (place_kept 0 u e.name (names_of n.lets) h)
+    (more_spans (place_of u n.inputs) (place_of u (names_of n.lets)) (list_any (bytes_eq u) (names_of n.outputs)) spans s
+    (λ k g. let b = place_low 0 k u (names_of n.lets) g in omega (arith, b.1, places, len))) in
     let made : P u (bytes_eq e.name u) = by_name P e.name u first other in
     made ∙ (λ i. known_by (place_of u n.inputs) (place_of u (sym (names_more n.lets e) i)) (list_any (bytes_eq u) (names_of n.outputs)) ((ap (λ (k : ℕ). spans ++ k ∷ []) is ∙ sym (let_spans_more n.lets e)) i))
 
@@ -258,7 +258,7 @@ known_output n e new u =
     let other : bytes_eq u e.name ≡ false → P u false = λ h. rw (h, or_false) refl in
     let made : P u (bytes_eq e.name u) = by_name P e.name u first other in
     let outs : (list_any (bytes_eq u) (names_of n.outputs) || (bytes_eq u e.name || false)) ≡ list_any (bytes_eq u) (names_of (n.outputs ++ e ∷ [])) =
-      sym (any_more u e.name (names_of n.outputs)) ∙ ap (list_any (bytes_eq u)) (sym (names_more n.outputs e)) in
+    sym (any_more u e.name (names_of n.outputs)) ∙ ap (list_any (bytes_eq u)) (sym (names_more n.outputs e)) in
     made ∙ ap (λ (b : Bool). known_by (place_of u n.inputs) (place_of u (names_of n.lets)) b spans) outs
 
 pub known_input : (ins : List (List ℕ)) (x : List ℕ) → list_any (bytes_eq x) ins ≡ false → (u : List ℕ)

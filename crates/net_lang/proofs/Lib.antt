@@ -6,7 +6,15 @@ pub mod Numbers
 pub mod Knowing
 pub mod Drafts
 pub mod Sound
+pub mod PrintedPieces
+pub mod PrintedDigits
+pub mod PrintedWords
+pub mod PrintedLines
+pub mod PrintedNames
+pub mod PrintedRules
 pub mod Declaring
 pub mod Verdicts
 pub mod Lines
 pub mod Whole
+pub mod PrintedNetwork
+pub mod Laws

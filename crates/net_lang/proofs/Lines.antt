@@ -31,8 +31,19 @@ pub record Reached (d : kept.Draft) (left all : List Line) (end i : ℕ) : Type 
 
 pub nothing_sound : IsSound (net [] [] [])
 nothing_sound = record {
-  few_inputs = omega arith; few_outputs = omega arith; input_names = refl; let_names = refl; output_names = refl; distinct = refl; lets_over = tt; outputs_over = tt;
-  few_joins = omega arith; few_delays = omega arith; shallow = tt; short_lets = tt; short_outputs = tt;
+  few_inputs = omega arith;
+  few_outputs = omega arith;
+  input_names = refl;
+  let_names = refl;
+  output_names = refl;
+  distinct = refl;
+  lets_over = tt;
+  outputs_over = tt;
+  few_joins = omega arith;
+  few_delays = omega arith;
+  shallow = tt;
+  short_lets = tt;
+  short_outputs = tt;
 }
 
 pub begins : (d : kept.Draft) (all : List Line) (end : ℕ) → ((t : List ℕ) → find d.scope t ≡ None) → d.stage ≡ stage.Start → d.inputs.items ≡ [] → d.lets.items ≡ [] → d.outputs.items ≡ [] → d.joins ≡ 0 → d.delays ≡ 0 → Reached d all all end 0

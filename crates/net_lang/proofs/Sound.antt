@@ -61,9 +61,9 @@ distinct_more (y ∷ xs) x d h =
     let b = or_parts (bytes_eq x y) (list_any (bytes_eq x) xs) h in
     let none : list_any (bytes_eq y) (xs ++ x ∷ []) ≡ false = any_last y x xs ∙ rw (no (list_any (bytes_eq y) xs) a.0, eq_comm x y b.0) refl in
     and_from (not (list_any (bytes_eq y) (xs ++ x ∷ []))) (are_distinct (xs ++ x ∷ [])) (ap not none) (distinct_more xs x a.1 b.1) where
-  no : (b : Bool) → not b ≡ true → b ≡ false
-  no false e = refl
-  no true e = absurd cc
+      no : (b : Bool) → not b ≡ true → b ≡ false
+      no false e = refl
+      no true e = absurd cc
 
 pub distinct_all : (xs ys : List (List ℕ)) → are_distinct xs ≡ true → some_twice xs ys ≡ false → are_distinct (xs ++ ys) ≡ true
 distinct_all xs [] d h = ap are_distinct (append-nil xs) ∙ d
@@ -107,8 +107,8 @@ sound_let n name t h none k deep =
     let z : 0 + length n.lets ≡ length n.lets = omega arith in
     let outs : names_of n.outputs ≡ [] = ap names_of none in
     let same_names : declared_names n ++ name ∷ [] ≡ declared_names (extended n (Let name t)) =
-      (λ i. (n.inputs ++ names_of n.lets ++ outs i) ++ name ∷ []) ∙ ap (λ (xs : List (List ℕ)). xs ++ name ∷ []) (append-nil (n.inputs ++ names_of n.lets)) ∙ append_assoc n.inputs (names_of n.lets) (name ∷ [])
-      ∙ ap (λ (xs : List (List ℕ)). n.inputs ++ xs) (sym (names_more n.lets e)) ∙ sym (append-nil (n.inputs ++ names_of (n.lets ++ e ∷ []))) ∙ (λ i. n.inputs ++ names_of (n.lets ++ e ∷ []) ++ sym outs i) in
+    (λ i. (n.inputs ++ names_of n.lets ++ outs i) ++ name ∷ []) ∙ ap (λ (xs : List (List ℕ)). xs ++ name ∷ []) (append-nil (n.inputs ++ names_of n.lets)) ∙ append_assoc n.inputs (names_of n.lets) (name ∷ [])
+    ∙ ap (λ (xs : List (List ℕ)). n.inputs ++ xs) (sym (names_more n.lets e)) ∙ sym (append-nil (n.inputs ++ names_of (n.lets ++ e ∷ []))) ∙ (λ i. n.inputs ++ names_of (n.lets ++ e ∷ []) ++ sym outs i) in
     let late : span (let_spans n.lets) (resolved n t) ≤ 1000000 = ltb-false 1000000 _ k.early in
     record {
       few_inputs = few.inputs;
@@ -133,7 +133,7 @@ sound_output n name t h k deep =
     let new = or_parts (list_any (bytes_eq name) (declared_names n)) false k.new in
     let over : IsOver (length n.inputs) (length n.lets) (resolved n t) = resolved_over n t (good_name (knows n t) k.known) in
     let same_names : declared_names n ++ name ∷ [] ≡ declared_names (extended n (Output name t)) =
-      append_assoc (n.inputs ++ names_of n.lets) (names_of n.outputs) (name ∷ []) ∙ ap (λ (xs : List (List ℕ)). n.inputs ++ names_of n.lets ++ xs) (sym (names_more n.outputs e)) in
+    append_assoc (n.inputs ++ names_of n.lets) (names_of n.outputs) (name ∷ []) ∙ ap (λ (xs : List (List ℕ)). n.inputs ++ names_of n.lets ++ xs) (sym (names_more n.outputs e)) in
     let late : span (let_spans n.lets) (resolved n t) ≤ 1000000 = ltb-false 1000000 _ k.early in
     record {
       few_inputs = few.inputs;
@@ -158,7 +158,7 @@ sound_inputs n names h no_lets no_outputs k =
     let outs : names_of n.outputs ≡ [] = ap names_of no_outputs in
     let before : declared_names n ≡ n.inputs = (λ i. n.inputs ++ lets i ++ outs i) ∙ append-nil (n.inputs ++ []) ∙ append-nil n.inputs in
     let same_names : declared_names n ++ names ≡ declared_names (extended n (Inputs names)) =
-      ap (λ (xs : List (List ℕ)). xs ++ names) before ∙ sym (append-nil (n.inputs ++ names)) ∙ sym (append-nil (n.inputs ++ names ++ [])) ∙ (λ i. n.inputs ++ names ++ sym lets i ++ sym outs i) in
+    ap (λ (xs : List (List ℕ)). xs ++ names) before ∙ sym (append-nil (n.inputs ++ names)) ∙ sym (append-nil (n.inputs ++ names ++ [])) ∙ (λ i. n.inputs ++ names ++ sym lets i ++ sym outs i) in
     record {
       few_inputs = few.inputs;
       few_outputs = few.outputs;

@@ -74,12 +74,12 @@ header_kept d new h a e =
     let j : ltb 16384 (joins_in (net_of d)) ≡ false = le-ltb 16384 _ h.sound.few_joins in
     let k : ltb 16384 (delays_in (net_of d)) ≡ false = le-ltb 16384 _ h.sound.few_delays in
     (rw (i, o, j, k) refl, rw e (record { now = refl; draft = record { names = h.names; joins = h.joins; delays = h.delays; parts = none d.stage a h.parts; sound = h.sound } })) where
-  none : (s : Stage) → allows s Header ≡ true → HasParts s (net_of d) → HasParts stage.Header (net_of d)
-  none stage.Start a p = p
-  none stage.Header a p = absurd cc
-  none stage.Inputs a p = absurd cc
-  none stage.Lets a p = absurd cc
-  none stage.Outputs a p = absurd cc
+      none : (s : Stage) → allows s Header ≡ true → HasParts s (net_of d) → HasParts stage.Header (net_of d)
+      none stage.Start a p = p
+      none stage.Header a p = absurd cc
+      none stage.Inputs a p = absurd cc
+      none stage.Lets a p = absurd cc
+      none stage.Outputs a p = absurd cc
 
 -- ---- at most one answer
 
@@ -110,3 +110,39 @@ not_broken before last (l ∷ ls) end n r s e (inr b) = not_broken (after before
 pub one_reading : (before last other : SoFar) (ls : List Line) → AllStand before ls last → AllStand before ls other → last ≡ other
 one_reading before last other [] s t = sym s ∙ t
 one_reading before last other (l ∷ ls) s t = one_reading (after before s.0) last other ls s.2 (subst (λ (f : Form). AllStand (after before f) ls other) (one_form l.words t.0 s.0 t.1.line s.1.line) t.2)
+
+-- ---- at most one rule is broken first
+
+judge_form : SoFar → Option Form → Option Rule
+judge_form before None = Some rule.Syntax
+judge_form before (Some f) = cond (allows before.stage f) (first_rule before.net f) (Some rule.Syntax)
+
+other_is : (before : SoFar) (ws : List Word) (r : Rule) (f : Form) → IsLine ws f → allows before.stage f ≡ true → first_rule before.net f ≡ Some r → judge_form before (form_at ws) ≡ Some r
+unfolding judge_form
+other_is before ws r f l a e = ap (judge_form before) (form_again ws f l) ∙ rw a e
+
+syntax_is : (before : SoFar) (ws : List Word) (o : Option Form) → form_at ws ≡ o → ((f : Form) → allows before.stage f ≡ true → IsLine ws f → ⊥) → judge_form before o ≡ Some rule.Syntax
+unfolding judge_form
+syntax_is before ws None e b = refl
+syntax_is before ws (Some f) e b = either (allows before.stage f) refl where
+  either : (t : Bool) → allows before.stage f ≡ t → cond t (first_rule before.net f) (Some rule.Syntax) ≡ Some rule.Syntax
+  either false g = refl
+  either true g = absurd (b f g (form_some ws f e))
+
+breaks_is : (before : SoFar) (ws : List Word) (r : Rule) → Breaks before ws r → judge_form before (form_at ws) ≡ Some r
+breaks_is before ws rule.Syntax b = syntax_is before ws (form_at ws) refl b
+breaks_is before ws rule.Name b = other_is before ws rule.Name b.0 b.1 b.2 b.3
+breaks_is before ws rule.Doubled b = other_is before ws rule.Doubled b.0 b.1 b.2 b.3
+breaks_is before ws rule.Unknown b = other_is before ws rule.Unknown b.0 b.1 b.2 b.3
+breaks_is before ws rule.Count b = other_is before ws rule.Count b.0 b.1 b.2 b.3
+breaks_is before ws rule.Span b = other_is before ws rule.Span b.0 b.1 b.2 b.3
+
+one_rule : (before : SoFar) (ws : List Word) (r q : Rule) → Breaks before ws r → Breaks before ws q → r ≡ q
+one_rule before ws r q b c = some_is r q (sym (breaks_is before ws r b) ∙ breaks_is before ws q c)
+
+pub one_first : (before : SoFar) (ls : List Line) (end n m : ℕ) (r q : Rule) → FirstBroken before ls end r n → FirstBroken before ls end q m → (r ≡ q) × (n ≡ m)
+one_first before [] end n m r q b c = (b.1 ∙ sym c.1, b.2 ∙ sym c.2)
+one_first before (l ∷ ls) end n m r q (inl b) (inl c) = (one_rule before l.words r q b.0 c.0, b.1 ∙ sym c.1)
+one_first before (l ∷ ls) end n m r q (inl b) (inr c) = absurd (not_both before l.words c.0 r c.1 b.0)
+one_first before (l ∷ ls) end n m r q (inr b) (inl c) = absurd (not_both before l.words b.0 q b.1 c.0)
+one_first before (l ∷ ls) end n m r q (inr b) (inr c) = one_first (after before b.0) ls end n m r q b.2 (subst (λ (f : Form). FirstBroken (after before f) ls end q m) (one_form l.words c.0 b.0 c.1.line b.1.line) c.2)

@@ -92,8 +92,21 @@ is_network d h e =
     let p : HasParts stage.Outputs (net_of d) = subst (λ (s : Stage). HasParts s (net_of d)) (at_outputs d.stage e) h.parts in
     let s = h.sound in
     record {
-      some_input = p.0; few_inputs = s.few_inputs; some_output = p.1; few_outputs = s.few_outputs; input_names = s.input_names; let_names = s.let_names; output_names = s.output_names; distinct = s.distinct;
-      lets_over = s.lets_over; outputs_over = s.outputs_over; few_joins = s.few_joins; few_delays = s.few_delays; shallow = s.shallow; short_lets = s.short_lets; short_outputs = s.short_outputs;
+      some_input = p.0;
+      few_inputs = s.few_inputs;
+      some_output = p.1;
+      few_outputs = s.few_outputs;
+      input_names = s.input_names;
+      let_names = s.let_names;
+      output_names = s.output_names;
+      distinct = s.distinct;
+      lets_over = s.lets_over;
+      outputs_over = s.outputs_over;
+      few_joins = s.few_joins;
+      few_delays = s.few_delays;
+      shallow = s.shallow;
+      short_lets = s.short_lets;
+      short_outputs = s.short_outputs;
     }
 
 pub spells : (text : List ℕ) (ts : List Token) (all : List source.Line) (d : kept.Draft) (n : Net) → AreTokens style.Race text ts → map line all ≡ lines text ts → AllStand nothing_yet (map line all) (so_far d) → may_end d.stage ≡ true → n ≡ net_of d → SpellsNetwork text n

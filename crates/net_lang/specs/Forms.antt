@@ -25,4 +25,3 @@ IsFormed (Output n t) = IsWritten t × (written_nesting t ≤ 64)
 pub record IsLine (ws : List Word) (f : Form) : Type 0 where
   pub words : ws ≡ spelled_form f
   pub formed : IsFormed f
-

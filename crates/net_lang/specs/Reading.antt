@@ -85,4 +85,3 @@ unfoldable pub expr_at : ℕ → List Word → Read Expression
 expr_at d [] = None
 expr_at zero (w ∷ ws) = leaf (key_of w) w.bytes ws
 expr_at (suc d) (w ∷ ws) = operation (key_of w) w.bytes (expr_at d) ws
-

@@ -5,9 +5,11 @@ mod ast;
 mod print;
 #[cfg(test)]
 mod print_tests;
+mod printed;
 mod reader;
 
 pub use ast::{Binding, Expr, Network};
 pub use print::print_network;
-pub use reader::{NetError, Rule, read_network};
+pub use printed::{printing_is_read, printing_spells};
+pub use reader::{NetError, Rule, no_cause, one_cause, one_network, read_network};
 pub use rl_text::Name;

@@ -4,6 +4,7 @@ mod error;
 mod form;
 mod inputs;
 mod judge;
+mod laws;
 mod line;
 mod measure;
 mod names;
@@ -16,5 +17,9 @@ mod word;
 mod written;
 
 pub use error::NetError;
+pub use laws::{no_cause, one_cause, one_network};
 pub use network::read_network;
 pub use rules::Rule;
+
+#[cfg(test)]
+mod tests;

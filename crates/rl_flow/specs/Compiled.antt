@@ -1,11 +1,11 @@
 -- What it is to compile a network rightly.
-use Rattle.std.specs.Prelude.{◌≡◌, ◌⊎◌, ℕ, ◌<◌, ◌≤◌, List, map}
+use Rattle.std.specs.Prelude.{◌≡◌, ℕ, ◌<◌, ◌≤◌, List, map}
 use Rattle.rl_time.specs.declared.time.Time.{Time}
 use Rattle.net_lang.specs.declared.reader.rules.Rule.{Rule}
-use Rattle.net_lang.specs.declared.reader.rules.Rule.TheVariants as rule
 use Rattle.net_lang.specs.Formula.{Net}
 use Rattle.net_lang.specs.Rules.{names_of}
-use Rattle.net_lang.specs.Spelling.{SpellsNetwork, BreaksFirst, HasBadByte}
+use Rattle.net_lang.specs.Spelling.{SpellsNetwork}
+use Rattle.net_lang.specs.Outcome.{IsCause, error_of}
 use Rattle.net_lang.specs.Value.{space_time_function}
 use Rattle.verilog_text.specs.Circuit.{Circuit}
 use Rattle.verilog_text.specs.Meaning.{State, IsHistory, HasOneHistory, levels_from}
@@ -36,7 +36,7 @@ pub record IsModuleText (bytes text : List ℕ) : Type 0 where
 
 -- the bytes spell no network: this is the rule that they break first, on this line; a bad byte breaks the syntax before all else
 abbrev pub IsBroken : List ℕ → Rule → ℕ → Type 0
-IsBroken bytes r line = BreaksFirst bytes r line ⊎ ((r ≡ rule.Syntax) × HasBadByte bytes line)
+IsBroken bytes r line = IsCause bytes (error_of r line)
 
 -- the bytes spell a network of so many register bits, more than a module may have
 abbrev pub HasTooManyBits : List ℕ → ℕ → Type 0

@@ -90,11 +90,7 @@ pub fn span(written: &Written<'_>, scope: &Scope<'_>) -> u64
 }
 
 /// The expression, with its names looked up.
-pub fn resolve(
-    alloc: Global,
-    written: &Written<'_>,
-    scope: &Scope<'_>,
-) -> Result<Expr, NoMemory>
+pub fn resolve(alloc: Global, written: &Written<'_>, scope: &Scope<'_>) -> Result<Expr, NoMemory>
     requires small { IsSmall (find scope.now) }
     requires short { found_span (find scope.now) (expression written.now) ≤ 1000000 }
     ensures { IfOk result (λ e. formula e ≡ found_formula (find scope.now) (expression written.now)) }

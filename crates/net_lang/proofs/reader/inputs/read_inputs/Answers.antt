@@ -13,19 +13,19 @@ returns-then-not-good c = name_broken (net_of c.args.draft.now) (Inputs (all_now
 pub returns-then-not-fresh : goal.returns-then-not-fresh
 returns-then-not-fresh c =
     twice_broken c.args.draft.now (all_now c.args.names.now) c.requires.draft c.requires.allowed
-      (good_names c.args.names.now c.are_port_names-good.result true c.are_port_names-good.ensures c.if-not-good.false)
-      (not_fresh c.args.draft.now.inputs.items (all_now c.args.names.now) c.declare.new.inputs.items c.declare.new.scope c.in_ok-fresh.fresh c.if-not-fresh.true c.in_ok-fresh.ensures)
+    (good_names c.args.names.now c.are_port_names-good.result true c.are_port_names-good.ensures c.if-not-good.false)
+    (not_fresh c.args.draft.now.inputs.items (all_now c.args.names.now) c.declare.new.inputs.items c.declare.new.scope c.in_ok-fresh.fresh c.if-not-fresh.true c.in_ok-fresh.ensures)
 
 pub returns-then-count-gt64 : goal.returns-then-count-gt64
 returns-then-count-gt64 c =
     let d = fresh c.args.draft.now.inputs.items (all_now c.args.names.now) c.declare.new.inputs.items c.declare.new.scope c.in_ok-fresh.fresh c.if-not-fresh.false c.in_ok-fresh.ensures in
     many_broken c.args.draft.now (all_now c.args.names.now) c.requires.draft c.requires.allowed c.len-count.result
-      (good_names c.args.names.now c.are_port_names-good.result true c.are_port_names-good.ensures c.if-not-good.false)
-      d.0 (omega (arith, c.len-count.ensures, c.declare.new.inputs.ok, ap length d.1)) (omega (arith, c.if-count-gt64.true))
+    (good_names c.args.names.now c.are_port_names-good.result true c.are_port_names-good.ensures c.if-not-good.false)
+    d.0 (omega (arith, c.len-count.ensures, c.declare.new.inputs.ok, ap length d.1)) (omega (arith, c.if-count-gt64.true))
 
 pub returns : goal.returns
 returns c =
     let d = fresh c.args.draft.now.inputs.items (all_now c.args.names.now) c.declare.new.inputs.items c.declare.new.scope c.in_ok-fresh.fresh c.if-not-fresh.false c.in_ok-fresh.ensures in
     inputs_kept c.args.draft.now (all_now c.args.names.now) c.requires.draft c.requires.allowed _ c.len-count.result
-      (good_names c.args.names.now c.are_port_names-good.result true c.are_port_names-good.ensures c.if-not-good.false)
-      d.0 (omega (arith, c.len-count.ensures, c.declare.new.inputs.ok, ap length d.1)) (omega (arith, c.if-count-gt64.false)) c.requires.some d.2 refl d.1 refl refl refl refl
+    (good_names c.args.names.now c.are_port_names-good.result true c.are_port_names-good.ensures c.if-not-good.false)
+    d.0 (omega (arith, c.len-count.ensures, c.declare.new.inputs.ok, ap length d.1)) (omega (arith, c.if-count-gt64.false)) c.requires.some d.2 refl d.1 refl refl refl refl

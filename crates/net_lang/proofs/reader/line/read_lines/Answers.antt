@@ -18,13 +18,13 @@ read_line-requires-clause-lets c = omega (arith, c.loop-line.invariant.lets, c.l
 pub loop-line-preserved : goal.loop-line-preserved
 loop-line-preserved c =
     goes_on c.loop-line.draft c.args.all.now (map line c.args.all.now) c.args.end c.loop-line.line-index c.line-item.result c.loop-line-test.true c.line-item.is c.loop-line.invariant
-      c.read_line.new.draft c.deref.result.now c.deref.ensures.value c.in-Ok.ensures
+    c.read_line.new.draft c.deref.result.now c.deref.ensures.value c.in-Ok.ensures
 
 pub returns-in-Err-Broken : goal.returns-in-Err-Broken
 returns-in-Err-Broken c =
     let first = FirstBroken nothing_yet (map line c.args.all.now) c.args.end in
     let broken = stops c.loop-line.draft c.args.all.now (map line c.args.all.now) c.args.end c.loop-line.line-index c.line-item.result c.loop-line-test.true c.line-item.is c.loop-line.invariant
-      c.deref.result.now c.in-Err-Broken.rule c.deref.ensures.value (rw c.in-Err-Broken.field-0-is at c.in-Err-Broken.ensures) in
+    c.deref.result.now c.in-Err-Broken.rule c.deref.ensures.value (rw c.in-Err-Broken.field-0-is at c.in-Err-Broken.ensures) in
     rw (c.error_of.ensures, c.in-Err-Broken.rule-is) (named_so first c.in-Err-Broken.rule c.line-item.result.number broken)
 
 pub returns : goal.returns

@@ -19,7 +19,7 @@ returns c =
     let d = c.args.draft.now in
     let t = expression c.args.body.now in
     let_kept d _ c.args.name.now t c.requires.draft c.requires.allowed c.requires.keeps c.requires.nested
-      (rw (← c.span-span.ensures, ← c.len-place.ensures) c.in_ok-add.ensures) refl
-      (ap (λ (es : List Equation). net d.inputs.items es d.outputs.items)
-        (c.in_ok-push.ensures.items ∙ binding_is d c.args.name.now _ t (formula c.in_ok-value.value) c.requires.draft c.in_ok-new.ensures c.in_ok-value.ensures d.lets.items _ c.new-binding.ensures))
-      (ap (λ (k : ℕ). d.joins + k) c.joins.ensures) (ap (λ (k : ℕ). d.delays + k) c.delays.ensures)
+    (rw (← c.span-span.ensures, ← c.len-place.ensures) c.in_ok-add.ensures) refl
+    (ap (λ (es : List Equation). net d.inputs.items es d.outputs.items)
+    (c.in_ok-push.ensures.items ∙ binding_is d c.args.name.now _ t (formula c.in_ok-value.value) c.requires.draft c.in_ok-new.ensures c.in_ok-value.ensures d.lets.items _ c.new-binding.ensures))
+    (ap (λ (k : ℕ). d.joins + k) c.joins.ensures) (ap (λ (k : ℕ). d.delays + k) c.delays.ensures)

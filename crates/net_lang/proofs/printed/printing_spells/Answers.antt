@@ -1,0 +1,5 @@
+use Rattle.net_lang.proofs.PrintedNetwork.{printed}
+use Rattle.net_lang.proofs.printed.printing_spells.Goals as goal
+
+pub returns : goal.returns
+returns c = printed

@@ -1,0 +1,5 @@
+use Rattle.net_lang.proofs.Laws.{no_cause}
+use Rattle.net_lang.proofs.reader.laws.no_cause.Goals as goal
+
+pub returns : goal.returns
+returns c = no_cause

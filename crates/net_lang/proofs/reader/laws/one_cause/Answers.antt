@@ -1,0 +1,5 @@
+use Rattle.net_lang.proofs.Laws.{one_cause}
+use Rattle.net_lang.proofs.reader.laws.one_cause.Goals as goal
+
+pub returns : goal.returns
+returns c = one_cause

@@ -1,0 +1,106 @@
+ghost use Rattle.std.specs.Prelude.{◌≤◌, length};
+
+use super::error::NetError;
+use super::network::read_network;
+use crate::print::print_network;
+use std::alloc::Global;
+use std::process::Abort;
+use std::test::Fail;
+
+/// The text is read, and printed again it is the same.
+fn check_read(rt: &impl Abort, alloc: Global, text: &[u8]) -> Result<(), Fail>
+    requires { length text.now ≤ 1048576 }
+{
+    let network = read_network(alloc, text)?;
+    let printed = print_network(alloc, &network)?;
+    assert_eq!(rt; printed.as_slice(), text);
+    Ok(())
+}
+
+fn check_refused(rt: &impl Abort, alloc: Global, text: &[u8], error: NetError)
+    requires { length text.now ≤ 1048576 }
+{
+    assert_eq!(rt; read_network(alloc, text).err(), Some(error));
+}
+
+#[test]
+fn networks_are_read(rt: HostRuntime) -> Result<(), Fail> {
+    let alloc = rt.alloc();
+    check_read(&rt, alloc, b"racenet 1\ninput a b\noutput y = min(a, b)\n")?;
+    check_read(
+        &rt,
+        alloc,
+        b"racenet 1\ninput a b\nlet _p = lt(a, inc(b, 1000000))\noutput y = max(_p, never)\noutput z = _p\n",
+    )
+}
+
+#[test]
+fn comments_and_spaces_are_passed_over(rt: HostRuntime) -> Result<(), Fail> {
+    let alloc = rt.alloc();
+    let text = b"# a race\n\nracenet 1\t# one\ninput a\ninput b\r\n\noutput y=min ( a,b )";
+    let network = read_network(alloc, text)?;
+    let printed = print_network(alloc, &network)?;
+    assert_eq!(rt;
+        printed.as_slice(),
+        b"racenet 1\ninput a b\noutput y = min(a, b)\n".as_slice()
+    );
+    Ok(())
+}
+
+#[test]
+fn broken_rules_have_their_lines(rt: HostRuntime) {
+    let alloc = rt.alloc();
+    check_refused(&rt, alloc, b"", NetError::Syntax(1));
+    check_refused(&rt, alloc, b"racenet 2\n", NetError::Syntax(1));
+    check_refused(&rt, alloc, b"racenet 1\ninput a\n", NetError::Syntax(3));
+    check_refused(&rt, alloc, b"racenet 1\ninput min\n$", NetError::Syntax(3));
+    check_refused(&rt, alloc, b"racenet 1\ninput min\nlet", NetError::Name(2));
+    check_refused(&rt, alloc, b"racenet 1\ninput _a\n", NetError::Name(2));
+    check_refused(
+        &rt,
+        alloc,
+        b"racenet 1\ninput a b a\n",
+        NetError::Doubled(2),
+    );
+    check_refused(
+        &rt,
+        alloc,
+        b"racenet 1\ninput a\n\noutput y = b\n",
+        NetError::Unknown(4),
+    );
+    check_refused(
+        &rt,
+        alloc,
+        b"racenet 1\ninput a\noutput y = y\n",
+        NetError::Unknown(3),
+    );
+}
+
+#[test]
+fn numbers_are_judged(rt: HostRuntime) {
+    let alloc = rt.alloc();
+    check_refused(
+        &rt,
+        alloc,
+        b"racenet 1\ninput a\noutput y = inc(a, 01)\n",
+        NetError::Syntax(3),
+    );
+    check_refused(
+        &rt,
+        alloc,
+        b"racenet 1\ninput a\noutput y = inc(a, 1000001)\n",
+        NetError::Span(3),
+    );
+    check_refused(
+        &rt,
+        alloc,
+        b"racenet 1\ninput a\noutput y = inc(inc(a, 1), 99999999999999999999)\n",
+        NetError::Span(3),
+    );
+    check_refused(
+        &rt,
+        alloc,
+        b"racenet 1\ninput a0 a1 a2 a3 a4 a5 a6 a7 a8 a9 b0 b1 b2 b3 b4 b5 b6 b7 b8 b9 c0 c1 c2 c3 c4 c5 c6 c7 c8 c9 d0 d1 d2 d3 d4 d5 d6 d7 d8 d9 e0 e1 e2 e3 e4 e5 e6 e7 e8 e9 f0 f1 f2 f3 f4 f5 f6 f7 f8 f9 g0 g1 g2 g3 g4\n",
+        NetError::Count(2),
+    );
+}
