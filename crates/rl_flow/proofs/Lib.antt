@@ -1,2 +1,4 @@
 pub mod Right
 pub mod Putting
+pub mod Judging
+pub mod Ending

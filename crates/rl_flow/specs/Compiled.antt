@@ -27,10 +27,12 @@ pub record Realises (n : Net) (m : Circuit) : Type 0 where
 abbrev pub compiled_module : Net → Circuit
 compiled_module n = plain_module (written_netlist n)
 
--- the bytes spell a network, and the text is that of its module, which does what the network says
+-- the bytes spell a network that has no more register bits than a module may have, and the text is that of its module, which does
+-- what the network says
 pub record IsModuleText (bytes text : List ℕ) : Type 0 where
   pub network : Net
   pub read : SpellsNetwork bytes network
+  pub few : written_bits network ≤ 65536
   pub written : text ≡ module_text (compiled_module network)
   pub right : Realises network (compiled_module network)
 

@@ -3,10 +3,13 @@
 
 mod command;
 mod compile;
+mod laws;
 mod refusal;
+mod running;
 mod status;
 mod telling;
 
 pub use refusal::Refusal;
+pub use running::run;
 pub use status::Status;
 
