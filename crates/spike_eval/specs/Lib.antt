@@ -1,0 +1,4 @@
+pub mod Early
+pub mod Room
+pub mod Causal
+pub mod Outputs
