@@ -2,3 +2,4 @@ pub mod Early
 pub mod Room
 pub mod Causal
 pub mod Outputs
+pub mod Samples
