@@ -4,6 +4,8 @@
 //! wire is that of Madhavan, Sherwood and Strukov, *Race Logic* (ISCA 2014).
 #![tactic(auto)]
 
+mod text;
 mod time;
 
+pub use text::{put_time, read_time};
 pub use time::{NoMemory, Time};

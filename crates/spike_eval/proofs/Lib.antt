@@ -1,0 +1,6 @@
+pub mod Late
+pub mod Agreement
+pub mod Causality
+pub mod Invariance
+pub mod Numbers
+pub mod Sampled

@@ -1,0 +1,5 @@
+pub mod Early
+pub mod Room
+pub mod Causal
+pub mod Outputs
+pub mod Samples

@@ -1,0 +1,12 @@
+//! The values of networks, and what holds of them all: each output is a causal and invariant function of the inputs.
+//!
+//! Causal and invariant functions are those of Smith, *Space-Time Algebra* (ISCA 2018).
+#![tactic(auto)]
+
+mod evaluation;
+mod laws;
+#[cfg(test)]
+mod tests;
+
+pub use evaluation::eval;
+pub use laws::{numbers_decide, outputs_are_causal, outputs_are_invariant};
