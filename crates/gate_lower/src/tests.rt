@@ -1,20 +1,37 @@
+ghost use Rattle.std.specs.Prelude.{◌≤◌, length};
+
 use crate::emitting::emit;
 use crate::lower::lower_written;
-use net_lang::read_small;
+use net_lang::read_network;
+use std::alloc::Global;
+use std::process::Abort;
 use std::test::Fail;
 use verilog_text::print_module;
 
+// A network, its gates and delays, and the text of its module.
+fn expect(
+    rt: &impl Abort,
+    alloc: Global,
+    text: &[u8],
+    gates: usize,
+    delays: usize,
+    module: &[u8],
+) -> Result<(), Fail>
+    requires { length text.now ≤ 1048576 }
+{
+    let n = read_network(alloc, text)?;
+    let netlist = lower_written(alloc, &n)?;
+    assert_eq!(rt; netlist.gates().len(), gates);
+    assert_eq!(rt; netlist.delays().len(), delays);
+    let printed = print_module(alloc, &emit(alloc, &netlist)?)?;
+    assert_eq!(rt; printed.as_slice(), module);
+    Ok(())
+}
+
 #[test]
 fn a_min_is_one_gate(rt: HostRuntime) -> Result<(), Fail> {
-    let alloc = rt.alloc();
     let text = b"racenet 1\ninput a b\noutput y = min(a, b)\noutput z = b\n";
-    let n = read_small(alloc, text)?;
-    let gates = lower_written(alloc, &n)?;
-    assert_eq!(rt; gates.gates().len(), 1);
-    assert_eq!(rt; gates.delays().len(), 0);
-    let module = emit(alloc, &gates)?;
-    let printed = print_module(alloc, &module)?;
-    let want = b"module race(clk, rst, in_a, in_b, out_y, out_z);
+    let module = b"module race(clk, rst, in_a, in_b, out_y, out_z);
   input clk;
   input rst;
   input in_a;
@@ -27,6 +44,46 @@ fn a_min_is_one_gate(rt: HostRuntime) -> Result<(), Fail> {
   assign out_z = in_b;
 endmodule
 ";
-    assert_eq!(rt; printed.as_slice(), want.as_slice());
-    Ok(())
+    expect(&rt, rt.alloc(), text, 1, 0, module)
+}
+
+#[test]
+fn a_race_is_a_gate_and_a_register(rt: HostRuntime) -> Result<(), Fail> {
+    let text = b"racenet 1\ninput a b\noutput y = lt(a, b)\n";
+    let module = b"module race(clk, rst, in_a, in_b, out_y);
+  input clk;
+  input rst;
+  input in_a;
+  input in_b;
+  output out_y;
+  wire w0;
+  reg r0;
+  assign w0 = r0 | (in_a & ~in_b);
+  assign out_y = w0;
+  always @(posedge clk) if (rst) r0 <= 1'b0; else r0 <= w0;
+endmodule
+";
+    expect(&rt, rt.alloc(), text, 1, 0, module)
+}
+
+#[test]
+fn delays_are_chains_of_registers(rt: HostRuntime) -> Result<(), Fail> {
+    let text = b"racenet 1\ninput a\nlet m = max(a, a)\noutput y = inc(m, 2)\noutput z = never\n";
+    let module = b"module race(clk, rst, in_a, out_y, out_z);
+  input clk;
+  input rst;
+  input in_a;
+  output out_y;
+  output out_z;
+  wire w0;
+  reg r0;
+  reg r1;
+  assign w0 = in_a & in_a;
+  assign out_y = r1;
+  assign out_z = 1'b0;
+  always @(posedge clk) if (rst) r0 <= 1'b0; else r0 <= w0;
+  always @(posedge clk) if (rst) r1 <= 1'b0; else r1 <= r0;
+endmodule
+";
+    expect(&rt, rt.alloc(), text, 1, 1, module)
 }

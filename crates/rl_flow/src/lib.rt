@@ -13,3 +13,5 @@ pub use refusal::Refusal;
 pub use running::run;
 pub use status::Status;
 
+#[cfg(test)]
+mod tests;

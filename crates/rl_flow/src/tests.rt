@@ -1,0 +1,279 @@
+use crate::running::run;
+use crate::status::Status;
+use rl_io::{FileShelf, MemShelf, MemSink, StdSink, are_distinct};
+use std::alloc::{AllocError, Global};
+use std::fs;
+use std::process::Abort;
+use std::test::Fail;
+
+const EARLIEST: &[u8] = b"racenet 1\ninput a b\noutput y = min(a, b)\n";
+
+const EARLIEST_MODULE: &[u8] = b"module race(clk, rst, in_a, in_b, out_y);
+  input clk;
+  input rst;
+  input in_a;
+  input in_b;
+  output out_y;
+  wire w0;
+  assign w0 = in_a | in_b;
+  assign out_y = w0;
+endmodule
+";
+
+const COPY_MODULE: &[u8] = b"module race(clk, rst, in_a, out_y);
+  input clk;
+  input rst;
+  input in_a;
+  output out_y;
+  assign out_y = in_a;
+endmodule
+";
+
+const TWICE_MODULE: &[u8] = b"module race(clk, rst, in_a, in_b, out_y, out_z);
+  input clk;
+  input rst;
+  input in_a;
+  input in_b;
+  output out_y;
+  output out_z;
+  wire w0;
+  wire w1;
+  assign w0 = in_a | in_b;
+  assign w1 = in_a | in_b;
+  assign out_y = w0;
+  assign out_z = w1;
+endmodule
+";
+
+const RACE_MODULE: &[u8] = b"module race(clk, rst, in_a, in_b, out_y);
+  input clk;
+  input rst;
+  input in_a;
+  input in_b;
+  output out_y;
+  wire w0;
+  reg r0;
+  assign w0 = r0 | (in_a & ~in_b);
+  assign out_y = w0;
+  always @(posedge clk) if (rst) r0 <= 1'b0; else r0 <= w0;
+endmodule
+";
+
+const NEVER_MODULE: &[u8] = b"module race(clk, rst, in_a, out_y);
+  input clk;
+  input rst;
+  input in_a;
+  output out_y;
+  assign out_y = 1'b0;
+endmodule
+";
+
+const DELAYS_MODULE: &[u8] = b"module race(clk, rst, in_a, out_y, out_z);
+  input clk;
+  input rst;
+  input in_a;
+  output out_y;
+  output out_z;
+  reg r0;
+  reg r1;
+  reg r2;
+  assign out_y = r0;
+  assign out_z = r2;
+  always @(posedge clk) if (rst) r0 <= 1'b0; else r0 <= in_a;
+  always @(posedge clk) if (rst) r1 <= 1'b0; else r1 <= in_a;
+  always @(posedge clk) if (rst) r2 <= 1'b0; else r2 <= r1;
+endmodule
+";
+
+/// How a shelf and a sink behave: the bytes of a fetch and of a put at most, and the calls that fail, from 1.
+#[derive(Drop)]
+struct Outside<'a> {
+    chunk: usize,
+    fetch_fails: &'a [u64],
+    put_chunk: usize,
+    put_fails: &'a [u64],
+}
+
+const EASY: Outside<'static> = Outside {
+    chunk: 4096,
+    fetch_fails: &[],
+    put_chunk: 4096,
+    put_fails: &[],
+};
+
+fn texts(alloc: Global, words: &[&str]) -> Result<Vec<String>, AllocError> {
+    let mut texts = Vec::new(alloc);
+    for word in words {
+        texts.push(String::from_str(alloc, word)?)?;
+    }
+    Ok(texts)
+}
+
+// Runs the words over a shelf that holds one file, "f", and compares the status and what both sinks took.
+fn expect(
+    rt: &impl Abort,
+    alloc: Global,
+    file: &[u8],
+    words: &[&str],
+    outside: &Outside,
+    want: (Status, &[u8], &[u8]),
+) -> Result<(), Fail> {
+    let mut files = Vec::new(alloc);
+    files.push((String::from_str(alloc, "f")?, file.to_vec(alloc)?))?;
+    let fetch_fails = outside.fetch_fails.to_vec(alloc)?;
+    let put_fails = outside.put_fails.to_vec(alloc)?;
+    assert!(rt; are_distinct(&files));
+    assert!(rt; outside.chunk >= 1 && outside.put_chunk >= 1);
+    assert!(rt; fetch_fails.iter().all(|f| *f < u64::MAX));
+    let mut shelf = MemShelf::new(files, outside.chunk, fetch_fails);
+    let mut out = MemSink::new(alloc, 65536, outside.put_chunk, put_fails)?;
+    let mut err = MemSink::new(alloc, 4096, 4096, Vec::new(alloc))?;
+    let words = texts(alloc, words)?;
+    let status = run(alloc, &words, &mut shelf, &mut out, &mut err);
+    assert_eq!(rt; status, want.0);
+    assert_eq!(rt; out.written(), want.1);
+    assert_eq!(rt; err.written(), want.2);
+    Ok(())
+}
+
+// The file is compiled to this module.
+fn expect_module(rt: &impl Abort, alloc: Global, file: &[u8], module: &[u8]) -> Result<(), Fail> {
+    let want = (Status::Done, module, b"".as_slice());
+    expect(rt, alloc, file, &["compile", "f"], &EASY, want)
+}
+
+#[test]
+fn compiles_networks_to_modules(rt: HostRuntime) -> Result<(), Fail> {
+    let alloc = rt.alloc();
+    let copy = b"racenet 1\ninput a\noutput y = a\n";
+    let no_delay = b"racenet 1\ninput a\noutput y = inc(a, 0)\n";
+    let twice = b"racenet 1\ninput a b\noutput y = min(a, b)\noutput z = min(a, b)\n";
+    let race = b"# a race\nracenet 1\ninput a b\nlet first = lt(a, b)\noutput y = first";
+    let never = b"racenet 1\ninput a\noutput y = never\n";
+    let delays = b"racenet 1\ninput a\noutput y = inc(a, 1)\noutput z = inc(a, 2)\n";
+    expect_module(&rt, alloc, EARLIEST, EARLIEST_MODULE)?;
+    expect_module(&rt, alloc, copy, COPY_MODULE)?;
+    expect_module(&rt, alloc, no_delay, COPY_MODULE)?;
+    expect_module(&rt, alloc, twice, TWICE_MODULE)?;
+    expect_module(&rt, alloc, race, RACE_MODULE)?;
+    expect_module(&rt, alloc, never, NEVER_MODULE)?;
+    expect_module(&rt, alloc, delays, DELAYS_MODULE)
+}
+
+// The words are no command.
+fn expect_usage(rt: &impl Abort, alloc: Global, words: &[&str]) -> Result<(), Fail> {
+    let want = (
+        Status::Words,
+        b"".as_slice(),
+        b"racelog: usage\n".as_slice(),
+    );
+    expect(rt, alloc, EARLIEST, words, &EASY, want)
+}
+
+// The file is refused by this line.
+fn expect_refused(rt: &impl Abort, alloc: Global, file: &[u8], line: &[u8]) -> Result<(), Fail> {
+    let want = (Status::Refused, b"".as_slice(), line);
+    expect(rt, alloc, file, &["compile", "f"], &EASY, want)
+}
+
+#[test]
+fn refuses_words(rt: HostRuntime) -> Result<(), Fail> {
+    let alloc = rt.alloc();
+    let long = "f".repeat(alloc, 4097)?;
+    expect_usage(&rt, alloc, &[])?;
+    expect_usage(&rt, alloc, &["compile"])?;
+    expect_usage(&rt, alloc, &["f"])?;
+    expect_usage(&rt, alloc, &["Compile", "f"])?;
+    expect_usage(&rt, alloc, &["compile", ""])?;
+    expect_usage(&rt, alloc, &["compile", "-f"])?;
+    expect_usage(&rt, alloc, &["compile", "f", "f"])?;
+    expect_usage(&rt, alloc, &["compile", long.as_str()])
+}
+
+#[test]
+fn refuses_files(rt: HostRuntime) -> Result<(), Fail> {
+    let alloc = rt.alloc();
+    let huge = vec![in alloc; 32u8; 1048577]?;
+    expect_refused(&rt, alloc, &huge, b"racelog: E01 file 1 1048576\n")?;
+    expect_refused(&rt, alloc, b"", b"racelog: E10 file 1 line 1\n")?;
+    let bad_byte = b"racenet 1\ninput a a\noutput y = a!\n";
+    expect_refused(&rt, alloc, bad_byte, b"racelog: E10 file 1 line 3\n")?;
+    let reserved = b"racenet 1\ninput min\noutput y = min\n";
+    expect_refused(&rt, alloc, reserved, b"racelog: E11 file 1 line 2\n")?;
+    let span = b"racenet 1\ninput a\noutput y = inc(inc(a, 1000000), 1)\n";
+    expect_refused(&rt, alloc, span, b"racelog: E12 file 1 line 3\n")?;
+    let doubled = b"racenet 1\ninput a a\noutput y = a\n";
+    expect_refused(&rt, alloc, doubled, b"racelog: E13 file 1 line 2\n")?;
+    let unknown = b"racenet 1\ninput a\n\noutput y = b\n";
+    expect_refused(&rt, alloc, unknown, b"racelog: E14 file 1 line 4\n")
+}
+
+#[test]
+fn refuses_too_many_register_bits(rt: HostRuntime) -> Result<(), Fail> {
+    let alloc = rt.alloc();
+    let many = b"racenet 1\ninput a\noutput y = inc(a, 65537)\n";
+    expect_refused(&rt, alloc, many, b"racelog: E20 65537\n")?;
+    let race = b"racenet 1\ninput a b\noutput y = lt(inc(a, 65536), b)\n";
+    expect_refused(&rt, alloc, race, b"racelog: E20 65537\n")
+}
+
+#[test]
+fn tells_faults_of_reading_and_writing(rt: HostRuntime) -> Result<(), Fail> {
+    let alloc = rt.alloc();
+    let read_fault = (
+        Status::ReadFault,
+        b"".as_slice(),
+        b"racelog: read fault file 1\n".as_slice(),
+    );
+    let second_fetch = Outside {
+        chunk: 16,
+        fetch_fails: &[2],
+        put_chunk: 64,
+        put_fails: &[],
+    };
+    expect(
+        &rt,
+        alloc,
+        EARLIEST,
+        &["compile", "f"],
+        &second_fetch,
+        read_fault,
+    )?;
+    expect(&rt, alloc, EARLIEST, &["compile", "g"], &EASY, read_fault)?;
+    let third_put = Outside {
+        chunk: 16,
+        fetch_fails: &[],
+        put_chunk: 64,
+        put_fails: &[3],
+    };
+    let write_fault = (
+        Status::WriteFault,
+        &EARLIEST_MODULE[..128],
+        b"racelog: write fault\n".as_slice(),
+    );
+    expect(
+        &rt,
+        alloc,
+        EARLIEST,
+        &["compile", "f"],
+        &third_put,
+        write_fault,
+    )
+}
+
+#[test]
+fn runs_over_the_system(rt: HostRuntime) -> Result<(), Fail> {
+    let alloc = rt.alloc();
+    fs::write(&rt, "earliest.net", EARLIEST)?;
+    let mut shelf = FileShelf::new(&rt);
+    let mut out = StdSink::out(&rt);
+    let mut err = StdSink::err(&rt);
+    let words = texts(alloc, &["compile", "earliest.net"])?;
+    let status = run(alloc, &words, &mut shelf, &mut out, &mut err);
+    assert_eq!(rt; status, Status::Done);
+    let words = texts(alloc, &["compile", "missing.net"])?;
+    let status = run(alloc, &words, &mut shelf, &mut out, &mut err);
+    assert_eq!(rt; status, Status::ReadFault);
+    assert_eq!(rt; status.code(), 4);
+    Ok(())
+}
