@@ -3,8 +3,6 @@
 
 mod ast;
 mod print;
-#[cfg(test)]
-mod print_tests;
 mod printed;
 mod reader;
 

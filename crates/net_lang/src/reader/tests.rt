@@ -30,7 +30,7 @@ fn networks_are_read(rt: HostRuntime) -> Result<(), Fail> {
     check_read(
         &rt,
         alloc,
-        b"racenet 1\ninput a b\nlet _p = lt(a, inc(b, 1000000))\noutput y = max(_p, never)\noutput z = _p\n",
+        b"racenet 1\ninput a b\nlet _p = lt(a, inc(b, 1000000))\noutput y = max(_p, never)\noutput z = min(_p, a)\n",
     )
 }
 
@@ -76,6 +76,59 @@ fn broken_rules_have_their_lines(rt: HostRuntime) {
     );
 }
 
+// An output of so many nested delays, each of one cycle.
+fn nested(alloc: Global, depth: usize) -> Result<Vec<u8>, Fail> {
+    let mut text = b"racenet 1\ninput a\noutput y = ".to_vec(alloc)?;
+    text.extend_from_slice(&b"inc(".repeat(alloc, depth)?)?;
+    text.extend_from_slice(b"a")?;
+    text.extend_from_slice(&b", 1)".repeat(alloc, depth)?)?;
+    text.extend_from_slice(b"\n")?;
+    Ok(text)
+}
+
+#[test]
+fn nesting_ends_at_64(rt: HostRuntime) -> Result<(), Fail> {
+    let alloc = rt.alloc();
+    let deepest = nested(alloc, 64)?;
+    let deeper = nested(alloc, 65)?;
+    assert!(rt; deepest.len() <= 1000 && deeper.len() <= 1000);
+    check_read(&rt, alloc, &deepest)?;
+    check_refused(&rt, alloc, &deeper, NetError::Syntax(3));
+    Ok(())
+}
+
+#[test]
+fn lines_end_and_stages_are_kept(rt: HostRuntime) {
+    let alloc = rt.alloc();
+    let cut = b"racenet 1\ninput a\noutput y = min(a,";
+    let late_let = b"racenet 1\ninput a\noutput y = a\nlet b = a\n";
+    let no_input = b"racenet 1\noutput y = never\n";
+    check_refused(&rt, alloc, cut, NetError::Syntax(3));
+    check_refused(&rt, alloc, late_let, NetError::Syntax(4));
+    check_refused(&rt, alloc, no_input, NetError::Syntax(2));
+}
+
+#[test]
+fn rules_of_a_line_have_an_order(rt: HostRuntime) {
+    let alloc = rt.alloc();
+    let own_name = b"racenet 1\ninput a\nlet p = min(p, a)\noutput y = p\n";
+    let name_and_doubled = b"racenet 1\ninput a\noutput min = a\n";
+    let name_and_unknown = b"racenet 1\ninput a\noutput _y = b\n";
+    let name_and_span = b"racenet 1\ninput a\nlet inc = inc(a, 1000001)\n";
+    let doubled_and_unknown = b"racenet 1\ninput a\nlet a = b\n";
+    let doubled_and_span = b"racenet 1\ninput a\nlet a = inc(a, 1000001)\n";
+    let unknown_and_span = b"racenet 1\ninput a\nlet b = inc(c, 1000001)\n";
+    let later_syntax = b"racenet 1\ninput a\nlet a = a\nlet =\n";
+    check_refused(&rt, alloc, own_name, NetError::Unknown(3));
+    check_refused(&rt, alloc, name_and_doubled, NetError::Name(3));
+    check_refused(&rt, alloc, name_and_unknown, NetError::Name(3));
+    check_refused(&rt, alloc, name_and_span, NetError::Name(3));
+    check_refused(&rt, alloc, doubled_and_unknown, NetError::Doubled(3));
+    check_refused(&rt, alloc, doubled_and_span, NetError::Doubled(3));
+    check_refused(&rt, alloc, unknown_and_span, NetError::Unknown(3));
+    check_refused(&rt, alloc, later_syntax, NetError::Doubled(3));
+}
+
 #[test]
 fn numbers_are_judged(rt: HostRuntime) {
     let alloc = rt.alloc();
@@ -85,6 +138,8 @@ fn numbers_are_judged(rt: HostRuntime) {
         b"racenet 1\ninput a\noutput y = inc(a, 01)\n",
         NetError::Syntax(3),
     );
+    let span = b"racenet 1\ninput a\nlet p = inc(a, 999999)\noutput y = inc(p, 1)\noutput z = inc(p, 2)\n";
+    check_refused(&rt, alloc, span, NetError::Span(5));
     check_refused(
         &rt,
         alloc,
