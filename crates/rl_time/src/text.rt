@@ -9,7 +9,8 @@ use crate::time::{NoMemory, Time};
 use itoa::Buffer;
 use std::str;
 
-/// The time that a text writes: `never`, or a decimal number of 64 bits without a leading zero, but `0`.
+/// The time that a text writes: `never`, or a decimal number of 64 bits without a leading zero, but
+/// `0`. It answers `None` exactly where the text is neither.
 pub fn read_time(text: &[u8]) -> Option<Time>
     ensures written { IfSome result (λ t. FitsIn64Bits t × (text.now ≡ time_text t)) }
     ensures read { (t : Time) → FitsIn64Bits t → text.now ≡ time_text t → result ≡ Some t }
@@ -63,8 +64,10 @@ fn read_number(text: &[u8]) -> Option<u64>
 
 /// Whether neither a plus nor a zero before another byte stands first.
 fn is_plain(text: &[u8]) -> bool
-    ensures plain { OnTrue result ((slice_index text.now 0 ≢ 43) × (slice_index text.now 0 ≡ 48 → length text.now ≡ 1)) }
-    ensures other { OnFalse result ((slice_index text.now 0 ≡ 43) ⊎ ((slice_index text.now 0 ≡ 48) × (1 < length text.now))) }
+    ensures plain { OnTrue result ((slice_index text.now 0 ≢ 43)
+        × (slice_index text.now 0 ≡ 48 → length text.now ≡ 1)) }
+    ensures other { OnFalse result ((slice_index text.now 0 ≡ 43)
+        ⊎ ((slice_index text.now 0 ≡ 48) × (1 < length text.now))) }
 {
     !matches!(text, [b'+', ..] | [b'0', _, ..])
 }

@@ -5,20 +5,21 @@ ghost use Rattle.net_lang.specs.Formula.{Net};
 ghost use Rattle.spike_eval.specs.Causal.{IsCausal, IsInvariant, AreEqualOnNumbers, AreEqualOnTimes};
 ghost use Rattle.spike_eval.specs.Outputs.{output_function};
 
-/// Every output of every network is causal: up to any cycle, it rests on what the inputs do up to that cycle alone.
-/// The law needs none of the rules of networks.
+/// Every output of every network is causal: up to any cycle, it rests on what the inputs do up to
+/// that cycle alone. The law needs none of the rules of networks.
 pub fn outputs_are_causal()
     ensures { (n : Net) (k : ℕ) → IsCausal (output_function n k) }
 {}
 
-/// Every output of every network is invariant: where all inputs come one cycle later, so does the output.
-/// The law needs none of the rules of networks.
+/// Every output of every network is invariant: where all inputs come one cycle later, so does the
+/// output. The law needs none of the rules of networks.
 pub fn outputs_are_invariant()
     ensures { (n : Net) (k : ℕ) → IsInvariant (output_function n k) }
 {}
 
-/// Causal functions that are equal on all lists of k numbers are equal on all lists of k times, each of which may be
-/// never. They need not be invariant.
+/// Causal functions that are equal on all lists of k numbers are equal on all lists of k times,
+/// each of which may be never. They need not be invariant.
 pub fn numbers_decide()
-    ensures { (k : ℕ) (f g : List Time → Time) → IsCausal f → IsCausal g → AreEqualOnNumbers k f g → AreEqualOnTimes k f g }
+    ensures { (k : ℕ) (f g : List Time → Time) → IsCausal f → IsCausal g →
+        AreEqualOnNumbers k f g → AreEqualOnTimes k f g }
 {}

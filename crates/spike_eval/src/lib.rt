@@ -1,4 +1,5 @@
-//! The values of networks, and what holds of them all: each output is a causal and invariant function of the inputs.
+//! The values of networks, and what holds of them all: each output is a causal and invariant
+//! function of the inputs.
 //!
 //! Causal and invariant functions are those of Smith, *Space-Time Algebra* (ISCA 2018).
 #![tactic(auto)]
