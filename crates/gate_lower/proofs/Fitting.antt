@@ -1,10 +1,9 @@
 -- The numbers of registers fit, and what is emitted is the module of the plain form.
-use Rattle.std.proofs.Common.{◌≡◌, ℕ, zero, suc, ◌+◌, ◌-◌, ◌<◌, ◌≤◌, ◌^◌, List, [], ◌∷◌, ◌++◌, length, get_or, map, take, refl, ap, ◌∙◌, sym, subst, arith, Option, Some, None, All, append_assoc}
+use Rattle.std.proofs.Common.{◌≡◌, ℕ, zero, suc, ◌+◌, ◌-◌, ◌<◌, ◌≤◌, List, [], ◌∷◌, ◌++◌, length, get_or, take, ap, ◌∙◌, sym, subst, arith, Some, All, append_assoc}
 use Rattle.std.specs.Prelude.{slice_get, codes}
 use Rattle.std.proofs.lemmas.Option.{slice_get-get_or}
-use Rattle.verilog_text.specs.Circuit.{Logic, Circuit, Register, Assignment, Reg, circuit}
+use Rattle.verilog_text.specs.Circuit.{Logic, Register, Assignment, Reg, circuit}
 use Rattle.verilog_text.specs.Names.{numbered}
-use Rattle.verilog_text.specs.Valid.{IsValid}
 use Rattle.gate_lower.specs.declared.gates.Line.{Line}
 use Rattle.gate_lower.specs.declared.gates.Line.TheVariants as line
 use Rattle.gate_lower.specs.declared.gates.Gate.{Gate}
@@ -12,9 +11,8 @@ use Rattle.gate_lower.specs.declared.gates.Gate.TheVariants as gate
 use Rattle.gate_lower.specs.declared.gates.Delay.{Delay}
 use Rattle.gate_lower.specs.Netlist.{Output, Netlist}
 use Rattle.gate_lower.specs.Rules.{delay_bits, IsLine, HasLines, IsNetlist, output_names}
-use Rattle.gate_lower.specs.Plain.{first_registers, tap_at, TapFits, GateFits, register_name, chain, delay_registers, latch_registers, gate_assigns, output_assigns, plain_module}
+use Rattle.gate_lower.specs.Plain.{first_registers, tap_at, TapFits, GateFits, register_name, chain, delay_registers, latch_registers, plain_module}
 use Rattle.gate_lower.proofs.PlainForm.{first_register_at, length_delay_registers}
-use Rattle.gate_lower.proofs.Validity.{is_valid}
 
 -- one register more of a chain
 pub chain_step : (regs all : List Register) (h p w : ℕ) (feed : Logic) (r : Register) → p < w → r ≡ record { name = register_name (h + p); width = 1; next = feed } →

@@ -1,16 +1,16 @@
 -- Time against level, for any module in whose registers the taps of the delays and the held levels of the latches stand.
-use Rattle.std.proofs.Common.{◌≡◌, ℕ, zero, suc, ◌+◌, ◌-◌, ◌<◌, ◌≤◌, Bool, true, false, List, [], ◌∷◌, ◌++◌, length, get_or, map, take, replicate, refl, ap, ◌∙◌, sym, subst, inl, inr, arith, Option, Some, None}
+use Rattle.std.proofs.Common.{◌≡◌, ℕ, zero, suc, ◌+◌, ◌-◌, ◌<◌, ◌≤◌, Bool, false, List, [], ◌∷◌, length, get_or, map, replicate, refl, ap, ◌∙◌, sym, subst, inl, inr, arith, Some}
 use Rattle.std.specs.Prelude.{slice_get, not, ◌&&◌, ◌||◌}
 use Rattle.std.proofs.Math.ListN.{get_or-map}
 use Rattle.std.proofs.lemmas.List.{length-map, get_or-take, get_or_past, get_or-replicate, length-replicate}
 use Rattle.std.proofs.lemmas.Bool.{cases_lt}
 use Rattle.std.proofs.lemmas.Option.{slice_get_within, slice_get-get_or}
 use Rattle.rl_time.specs.declared.time.Time.{Time}
-use Rattle.rl_time.specs.declared.time.Time.TheVariants.{At, Never}
-use Rattle.rl_time.specs.Time.{time_min, time_max, time_lt, time_inc, has_risen}
+use Rattle.rl_time.specs.declared.time.Time.TheVariants.{Never}
+use Rattle.rl_time.specs.Time.{time_lt, time_inc, has_risen}
 use Rattle.verilog_text.specs.Circuit.{Logic, Circuit, Register}
 use Rattle.verilog_text.specs.Circuit as b
-use Rattle.verilog_text.specs.Meaning.{State, level, IsSettled, row_after, rows_after, row_at_start, IsStart, IsNext, Follows, IsHistory, levels_at, levels_from}
+use Rattle.verilog_text.specs.Meaning.{State, level, IsSettled, row_after, rows_after, row_at_start, Follows, IsHistory, levels_at, levels_from}
 use Rattle.gate_lower.specs.declared.gates.Line.{Line}
 use Rattle.gate_lower.specs.declared.gates.Line.TheVariants as line
 use Rattle.gate_lower.specs.declared.gates.Gate.{Gate}

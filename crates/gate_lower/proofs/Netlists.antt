@@ -1,18 +1,17 @@
 -- What a network writes keeps the rules of gates.
-use Rattle.std.proofs.Common.{◌≡◌, ◌≢◌, ℕ, zero, suc, ◌+◌, ◌≤◌, ◌<◌, List, [], ◌∷◌, ◌++◌, length, map, refl, ap, sym, ◌∙◌, subst, arith, All, IsTrue, zero-add}
+use Rattle.std.proofs.Common.{◌≡◌, ◌≢◌, ℕ, zero, suc, ◌≤◌, List, [], ◌∷◌, ◌++◌, length, refl, ap, sym, ◌∙◌, subst, arith, All, IsTrue, zero-add}
 use Rattle.std.specs.Prelude.{slice_get, Some, AllPairs}
-use Rattle.std.proofs.lemmas.List.{length-map}
 use Rattle.net_lang.specs.Formula.{Equation, Net}
-use Rattle.net_lang.specs.Rules.{IsNetwork, names_of, declared_names}
+use Rattle.net_lang.specs.Rules.{IsNetwork, names_of}
 use Rattle.verilog_text.specs.Names.{is_port_name}
 use Rattle.gate_lower.specs.declared.gates.Line.{Line}
 use Rattle.gate_lower.specs.declared.gates.Gate.{Gate}
 use Rattle.gate_lower.specs.declared.gates.Delay.{Delay}
-use Rattle.gate_lower.specs.Netlist.{Output, Netlist, netlist}
+use Rattle.gate_lower.specs.Netlist.{Output, netlist}
 use Rattle.gate_lower.specs.Rules.{IsLineOf, HasLinesOf, IsNetlist, output_names}
 use Rattle.gate_lower.specs.Written.{Written, written, written_lets, written_outputs, output_lines, written_netlist, written_bits}
 use Rattle.gate_lower.proofs.Counts.{few, netlist_bits, lets_counts, outputs_counts, one_line_each}
-use Rattle.gate_lower.proofs.Ranges.{AllInRange, AreLines, lets_in_range, outputs_in_range, gates_at, fed_at, lines_at}
+use Rattle.gate_lower.proofs.Ranges.{AllInRange, AreLines, lets_in_range, outputs_in_range, gates_at, fed_at}
 use Rattle.gate_lower.proofs.PortNames.{port_names, distinct, distinct_front, distinct_back}
 
 pub names_are : (es : List Equation) (lines : List Line) → length lines ≡ length es → output_names (output_lines es lines) ≡ names_of es

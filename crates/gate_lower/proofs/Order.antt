@@ -1,6 +1,6 @@
 -- The assigns of the module in the plain form are in order.
-use Rattle.std.proofs.Common.{◌≡◌, ℕ, zero, suc, ◌+◌, ◌-◌, ◌<◌, ◌≤◌, Bool, true, false, List, [], ◌∷◌, ◌++◌, length, get_or, map, refl, ap, ◌∙◌, sym, subst, arith, Option, Some, None, inl, inr, zero-add, length-append}
-use Rattle.std.specs.Prelude.{slice_get, ◌||◌, ◌==◌, ◌⊎◌, codes}
+use Rattle.std.proofs.Common.{◌≡◌, ℕ, ◌+◌, ◌-◌, ◌<◌, true, [], length, get_or, ap, ◌∙◌, sym, subst, arith, Some, inl, inr, zero-add, length-append}
+use Rattle.std.specs.Prelude.{slice_get, ◌⊎◌, codes}
 use Rattle.std.proofs.lemmas.List.{length-map}
 use Rattle.std.proofs.lemmas.Option.{slice_get_within, slice_get-get_or}
 use Rattle.std.proofs.lemmas.Bool.{cases_lt, eqb-true, false≢true, or_cases}

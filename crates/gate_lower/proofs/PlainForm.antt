@@ -1,10 +1,10 @@
 -- In the module of the plain form the taps and the held levels stand as the gates need them.
-use Rattle.std.proofs.Common.{◌≡◌, ℕ, zero, suc, ◌+◌, ◌-◌, ◌<◌, ◌≤◌, Bool, true, false, List, [], ◌∷◌, ◌++◌, length, get_or, map, take, refl, ap, ◌∙◌, sym, subst, arith, Option, Some, None, zero-add, length-append}
+use Rattle.std.proofs.Common.{◌≡◌, ℕ, zero, suc, ◌+◌, ◌-◌, ◌<◌, ◌≤◌, false, List, [], ◌∷◌, length, get_or, map, take, refl, ap, ◌∙◌, sym, subst, arith, Some, zero-add, length-append}
 use Rattle.std.specs.Prelude.{slice_get}
 use Rattle.verilog_text.specs.declared.bit.Target.TheVariants as target
 use Rattle.verilog_text.specs.Circuit.{Logic, Circuit, Register, Assignment}
 use Rattle.verilog_text.specs.Circuit as b
-use Rattle.verilog_text.specs.Meaning.{State, level, IsSettled, row_at_start}
+use Rattle.verilog_text.specs.Meaning.{State, level, row_at_start}
 use Rattle.gate_lower.specs.declared.gates.Line.{Line}
 use Rattle.gate_lower.specs.declared.gates.Gate.{Gate}
 use Rattle.gate_lower.specs.declared.gates.Gate.TheVariants as gate
@@ -12,7 +12,7 @@ use Rattle.gate_lower.specs.declared.gates.Delay.{Delay}
 use Rattle.gate_lower.specs.Netlist.{Output, Netlist}
 use Rattle.gate_lower.specs.Rules.{latch_bits, delay_bits, held_bits, IsNetlist}
 use Rattle.gate_lower.specs.Timing.{TimeIsLevel}
-use Rattle.gate_lower.specs.Plain.{operand, gate_logic, first_registers, plain_tap, register_name, chain, delay_registers, latch_register, latch_registers, gate_assigns, output_assigns, plain_module}
+use Rattle.gate_lower.specs.Plain.{operand, gate_logic, first_registers, plain_tap, register_name, chain, delay_registers, latch_registers, gate_assigns, output_assigns, plain_module}
 use Rattle.gate_lower.proofs.Ranges.{get_left, get_right}
 use Rattle.gate_lower.proofs.Generic.{some_is, row_bit, row_bit_after, row_bit_start, Edge, Realises, realised}
 

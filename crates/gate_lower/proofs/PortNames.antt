@@ -1,6 +1,6 @@
 -- A network's port names are those of a module, and no two of its inputs or outputs have one.
-use Rattle.std.proofs.Common.{◌≡◌, ◌≢◌, ℕ, zero, suc, ◌+◌, ◌≤◌, ◌<◌, Bool, true, false, List, [], ◌∷◌, ◌++◌, length, get_or, map, refl, ap, sym, ◌∙◌, subst, arith, length-append, All, IsTrue}
-use Rattle.std.specs.Prelude.{◌&&◌, ◌||◌, not, nat_le, ◌==◌, bytes_eq, AllPairs}
+use Rattle.std.proofs.Common.{◌≡◌, ◌≢◌, ℕ, Bool, true, false, List, [], ◌∷◌, ◌++◌, length, refl, ap, ◌∙◌, arith, All, IsTrue}
+use Rattle.std.specs.Prelude.{◌&&◌, ◌||◌, not, nat_le, bytes_eq, AllPairs}
 use Rattle.std.specs.List.{list_all, list_any}
 use Rattle.std.specs.Char.{is_ascii_alphabetic}
 use Rattle.std.proofs.lemmas.Bool.{and_parts, and_from}
@@ -8,9 +8,9 @@ use Rattle.std.proofs.lemmas.Bool.Decides.{nat_tests}
 use Rattle.std.proofs.lemmas.List.Kept.{AllPairs-cons}
 use Rattle.std.proofs.lemmas.List.Elements.{All-cons}
 use Rattle.std.proofs.lemmas.Slice.Eq.{bytes_eq-Decides}
-use Rattle.rl_text.specs.Names.{is_letter, is_digit, is_underscore, is_name_start, is_name_byte, is_name}
+use Rattle.rl_text.specs.Names.{is_underscore, is_name_start, is_name_byte, is_name}
 use Rattle.net_lang.specs.Rules as net
-use Rattle.verilog_text.specs.Names.{is_port_name, is_port_byte, is_word}
+use Rattle.verilog_text.specs.Names.{is_port_name, is_port_byte}
 
 byte_passes : (b : ℕ) → is_name_byte b ≡ true → is_port_byte b ≡ true
 byte_passes b h = grind (arith, nat_tests)

@@ -1,10 +1,10 @@
 -- Every line that is written names an input, an earlier gate or a tap that is there.
-use Rattle.std.proofs.Common.{◌≡◌, ◌≢◌, ℕ, zero, suc, ◌+◌, ◌≤◌, ◌<◌, Bool, true, false, List, [], ◌∷◌, ◌++◌, length, get_or, map, refl, ap, sym, ◌∙◌, subst, arith, length-append, append_assoc, Option, Some, None, IsTrue, All}
-use Rattle.std.specs.Prelude.{nat_eq, slice_get, slice_index_or, if◌then◌else◌, ◌&&◌, ◌||◌, not, nat_le, bytes_eq, AllPairs}
-use Rattle.std.specs.List.{AllByRecursion, list_all, list_any}
+use Rattle.std.proofs.Common.{◌≡◌, ℕ, zero, suc, ◌+◌, ◌≤◌, Bool, true, false, List, [], ◌∷◌, ◌++◌, length, refl, ap, sym, ◌∙◌, subst, arith, length-append, append_assoc, Some}
+use Rattle.std.specs.Prelude.{nat_eq, slice_get, slice_index_or, if◌then◌else◌}
+use Rattle.std.specs.List.{AllByRecursion}
 use Rattle.std.proofs.lemmas.List.{append-nil}
 use Rattle.std.proofs.lemmas.Bool.Decides.{nat_tests}
-use Rattle.net_lang.specs.Formula.{Formula, Never, Input, Named, Min, Max, Lt, Inc, Equation, Net}
+use Rattle.net_lang.specs.Formula.{Formula, Never, Input, Named, Min, Max, Lt, Inc, Equation}
 use Rattle.net_lang.specs.Rules.{joins, IsOver, AreLets}
 use Rattle.gate_lower.specs.declared.gates.Line.{Line}
 use Rattle.gate_lower.specs.declared.gates.Line.TheVariants as line
@@ -12,7 +12,7 @@ use Rattle.gate_lower.specs.declared.gates.Gate.{Gate}
 use Rattle.gate_lower.specs.declared.gates.Gate.TheVariants as gate
 use Rattle.gate_lower.specs.declared.gates.Delay.{Delay}
 use Rattle.gate_lower.specs.Rules.{IsLineOf, HasLinesOf}
-use Rattle.gate_lower.specs.Written.{true_delays, line_of, gates_of, delays_of, Written, written, with_formula, with_lets, with_outputs, written_lets, written_outputs}
+use Rattle.gate_lower.specs.Written.{true_delays, line_of, gates_of, delays_of, Written, with_formula, with_lets, with_outputs}
 use Rattle.gate_lower.proofs.Counts.{length_gates_of, length_delays_of}
 
 pub get_left : {A : Type 0} (xs ys : List A) (i : ℕ) (x : A) → slice_get xs i ≡ Some x → slice_get (xs ++ ys) i ≡ Some x

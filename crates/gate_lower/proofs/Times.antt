@@ -1,24 +1,21 @@
 -- The gates of a network have a timing in which its outputs have its values.
-use Rattle.std.proofs.Common.{◌≡◌, ℕ, zero, suc, ◌+◌, ◌≤◌, ◌<◌, Bool, true, false, List, [], ◌∷◌, ◌++◌, length, get_or, map, refl, ap, sym, ◌∙◌, subst, arith, length-append, append_assoc, zero-add}
-use Rattle.std.specs.Prelude.{nat_eq, slice_get, slice_index_or, if◌then◌else◌, fold, sum_by, Option, Some, None}
-use Rattle.std.specs.List.{AllByRecursion}
+use Rattle.std.proofs.Common.{◌≡◌, ℕ, zero, suc, ◌+◌, Bool, true, false, List, [], ◌∷◌, ◌++◌, length, map, refl, ap, sym, ◌∙◌, subst, arith, length-append, append_assoc, zero-add}
+use Rattle.std.specs.Prelude.{nat_eq, slice_get, slice_index_or, if◌then◌else◌, fold, sum_by, Some}
 use Rattle.std.proofs.lemmas.Bool.{eqb-true}
 use Rattle.std.proofs.lemmas.List.{append-nil}
 use Rattle.std.proofs.lemmas.List.Sums.{sum_by-cons}
 use Rattle.rl_time.specs.declared.time.Time.{Time}
-use Rattle.rl_time.specs.declared.time.Time.TheVariants as time
 use Rattle.rl_time.specs.Time.{time_min, time_max, time_lt, time_inc}
 use Rattle.net_lang.specs.Formula.{Formula, Never, Input, Named, Min, Max, Lt, Inc, Equation, Net}
-use Rattle.net_lang.specs.Rules.{joins, IsNetwork, names_of, IsOver, AreLets}
+use Rattle.net_lang.specs.Rules.{joins, IsNetwork}
 use Rattle.net_lang.specs.Value.{value, let_values, space_time_function, time_at}
 use Rattle.gate_lower.specs.declared.gates.Line.{Line}
 use Rattle.gate_lower.specs.declared.gates.Line.TheVariants as line
 use Rattle.gate_lower.specs.declared.gates.Gate.{Gate}
 use Rattle.gate_lower.specs.declared.gates.Gate.TheVariants as gate
 use Rattle.gate_lower.specs.declared.gates.Delay.{Delay}
-use Rattle.gate_lower.specs.Netlist.{Output, Netlist}
-use Rattle.gate_lower.specs.Rules.{output_names}
-use Rattle.gate_lower.specs.Timing.{line_time, gate_time, IsTiming, AreGatesOf}
+use Rattle.gate_lower.specs.Netlist.{Output}
+use Rattle.gate_lower.specs.Timing.{line_time, gate_time, AreGatesOf}
 use Rattle.gate_lower.specs.Written.{true_delays, line_of, gates_of, delays_of, Written, written, with_formula, with_lets, with_outputs, written_lets, written_outputs, output_lines, written_netlist}
 use Rattle.gate_lower.proofs.Counts.{length_gates_of, length_delays_of, one_line_each, lets_counts}
 use Rattle.gate_lower.proofs.Netlists.{names_are}

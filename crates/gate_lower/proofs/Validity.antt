@@ -1,13 +1,13 @@
 -- The module of the plain form is valid.
-use Rattle.std.proofs.Common.{◌≡◌, ℕ, zero, suc, ◌+◌, ◌-◌, ◌<◌, ◌≤◌, Bool, true, false, List, [], ◌∷◌, ◌++◌, length, get_or, map, take, refl, ap, ◌∙◌, sym, subst, arith, Option, Some, None, All, zero-add, length-append, append_assoc}
+use Rattle.std.proofs.Common.{◌≡◌, ℕ, zero, suc, ◌+◌, ◌-◌, ◌<◌, ◌≤◌, List, [], ◌∷◌, ◌++◌, length, get_or, map, take, refl, ap, ◌∙◌, sym, subst, arith, Some, zero-add, length-append}
 use Rattle.std.specs.Prelude.{slice_get, sum_by, codes}
 use Rattle.std.specs.List.{AllByRecursion}
-use Rattle.std.proofs.lemmas.List.{length-map, append-nil}
+use Rattle.std.proofs.lemmas.List.{length-map}
 use Rattle.std.proofs.lemmas.List.Elements.{All-from_recursion}
 use Rattle.std.proofs.lemmas.List.Sums.{sum_by-cons}
 use Rattle.verilog_text.specs.Circuit.{Logic, Circuit, Assignment, Register, register_bits}
 use Rattle.verilog_text.specs.Circuit as b
-use Rattle.verilog_text.specs.Names.{numbered, numbered_name}
+use Rattle.verilog_text.specs.Names.{numbered}
 use Rattle.verilog_text.specs.Valid.{HasBit, IsInRange, IsValid}
 use Rattle.verilog_text.proofs.Numbered.{length-numbered, numbered_names}
 use Rattle.gate_lower.specs.declared.gates.Line.{Line}
@@ -16,10 +16,10 @@ use Rattle.gate_lower.specs.declared.gates.Gate.{Gate}
 use Rattle.gate_lower.specs.declared.gates.Gate.TheVariants as gate
 use Rattle.gate_lower.specs.declared.gates.Delay.{Delay}
 use Rattle.gate_lower.specs.Netlist.{Output, Netlist}
-use Rattle.gate_lower.specs.Rules.{latch_bits, delay_bits, held_bits, IsLine, HasLines, IsNetlist, output_names}
-use Rattle.gate_lower.specs.Plain.{operand, gate_logic, first_registers, plain_tap, register_name, chain, delay_registers, latch_register, latch_registers, gate_assigns, output_assigns, plain_module}
+use Rattle.gate_lower.specs.Rules.{latch_bits, delay_bits, held_bits, IsLine, HasLines, IsNetlist}
+use Rattle.gate_lower.specs.Plain.{operand, gate_logic, first_registers, plain_tap, register_name, chain, delay_registers, latch_registers, gate_assigns, output_assigns, plain_module}
 use Rattle.gate_lower.proofs.Generic.{some_is}
-use Rattle.gate_lower.proofs.PlainForm.{first_register_at, length_chain, length_delay_registers, length_latch_registers}
+use Rattle.gate_lower.proofs.PlainForm.{first_register_at, length_delay_registers, length_latch_registers}
 use Rattle.gate_lower.proofs.Order.{is_ordered}
 
 -- each register has one bit

@@ -1,5 +1,5 @@
 -- The module of gates in the plain form: one register for each bit, those of the delays in order, then one for each latch.
-use Rattle.std.specs.Prelude.{ℕ, zero, suc, ◌+◌, ◌-◌, ◌^◌, ◌<◌, List, [], ◌∷◌, ◌++◌, length, map, codes, slice_index_or}
+use Rattle.std.specs.Prelude.{ℕ, zero, suc, ◌+◌, ◌-◌, ◌^◌, ◌<◌, List, [], ◌∷◌, ◌++◌, length, codes, slice_index_or}
 use Rattle.verilog_text.specs.declared.bit.Target.TheVariants as target
 use Rattle.verilog_text.specs.Circuit.{Logic, Zero, Input, Wire, Reg, Not, And, Or, Assignment, Register, Circuit, circuit}
 use Rattle.verilog_text.specs.Names.{numbered_name, numbered}

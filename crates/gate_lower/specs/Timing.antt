@@ -1,5 +1,5 @@
 -- The times of gates and delays: a set of equations, and no recursion.
-use Rattle.std.specs.Prelude.{◌≡◌, ℕ, Bool, false, List, length, map, slice_get, slice_index_or, Some}
+use Rattle.std.specs.Prelude.{◌≡◌, ℕ, false, List, map, slice_get, slice_index_or, Some}
 use Rattle.rl_time.specs.declared.time.Time.{Time}
 use Rattle.rl_time.specs.declared.time.Time.TheVariants.{Never}
 use Rattle.rl_time.specs.Time.{time_min, time_max, time_lt, time_inc, has_risen}

@@ -1,5 +1,5 @@
 -- The gates of a network as it is written: one for each written min, max and lt, one delay for each written inc by 1 or more.
-use Rattle.std.specs.Prelude.{ℕ, ◌+◌, nat_eq, if◌then◌else◌, List, [], ◌∷◌, ◌++◌, length, map, slice_index_or}
+use Rattle.std.specs.Prelude.{ℕ, ◌+◌, nat_eq, if◌then◌else◌, List, [], ◌∷◌, ◌++◌, length, slice_index_or}
 use Rattle.net_lang.specs.Formula.{Formula, Never, Input, Named, Min, Max, Lt, Inc, Equation, Net}
 use Rattle.net_lang.specs.Rules.{joins}
 use Rattle.gate_lower.specs.declared.gates.Line.{Line}

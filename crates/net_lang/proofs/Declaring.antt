@@ -1,5 +1,5 @@
 -- Inputs declared one after the other, as a loop takes them.
-use Rattle.std.proofs.Common.{◌≡◌, ◌≢◌, ℕ, zero, suc, ◌+◌, ◌≤◌, ◌<◌, Bool, true, false, cond, not, ◌&&◌, ◌||◌, ltb, List, [], ◌∷◌, ◌++◌, length, map, drop, get_or, vec_len, Option, Some, None, refl, sym, ap, subst, ◌∙◌, arith}
+use Rattle.std.proofs.Common.{◌≡◌, ◌≢◌, ℕ, ◌+◌, ◌≤◌, ◌<◌, Bool, true, false, cond, not, ◌||◌, ltb, List, [], ◌∷◌, ◌++◌, length, map, drop, get_or, Option, Some, None, refl, sym, ap, subst, ◌∙◌, arith}
 use denote.Bor.{Bor}
 use Rattle.net_lang.specs.declared.reader.scope.Known.{Known}
 use Rattle.std.specs.Prelude.{is_some}
@@ -7,22 +7,21 @@ use Rattle.std.specs.List.{list_any, list_all}
 use Rattle.std.specs.Str.{bytes_eq}
 use Rattle.std.proofs.lemmas.List.{append-nil, append_assoc, length-append, drop_more, drop_all}
 use Rattle.std.proofs.lemmas.List.Folds.{list_all-map}
-use Rattle.std.proofs.lemmas.Bool.{or_parts, le-ltb, lt-ltb}
+use Rattle.std.proofs.lemmas.Bool.{le-ltb, lt-ltb}
 use Rattle.net_lang.specs.declared.reader.scope.Scope as source
 use Rattle.net_lang.specs.declared.reader.scope.Place.TheVariants as place
 use Rattle.net_lang.specs.declared.reader.draft.Draft as kept
-use Rattle.net_lang.specs.declared.reader.rules.Rule.{Rule}
 use Rattle.net_lang.specs.declared.reader.rules.Rule.TheVariants as rule
 use Rattle.net_lang.specs.declared.reader.rules.Stage.{Stage}
 use Rattle.net_lang.specs.declared.reader.rules.Stage.TheVariants as stage
-use Rattle.net_lang.specs.Formula.{Equation, Net, net}
+use Rattle.net_lang.specs.Formula.{Net, net}
 use Rattle.net_lang.specs.Rules.{is_port_name, declared_names, names_of}
-use Rattle.net_lang.specs.Forms.{Form, Header, Inputs}
-use Rattle.net_lang.specs.LineRules.{allows, extended, some_twice, has_bad_name, has_doubled_name, has_too_many, joins_in, delays_in, is_over, first_of, first_rule}
+use Rattle.net_lang.specs.Forms.{Form, Inputs}
+use Rattle.net_lang.specs.LineRules.{allows, extended, some_twice, has_bad_name, has_doubled_name, has_too_many, joins_in, delays_in, first_rule}
 use Rattle.net_lang.specs.Known.{find, known, known_in, AddsName}
-use Rattle.net_lang.specs.Draft.{net_of, so_far, HasParts, IsSound, IsDraft, Adds, KnowsInputs, Declares, Judges}
-use Rattle.net_lang.proofs.Knowing.{known_declared, known_input, or_false}
-use Rattle.net_lang.proofs.Sound.{Keeps, keeps, sound_inputs}
+use Rattle.net_lang.specs.Draft.{net_of, HasParts, IsSound, IsDraft, Adds, KnowsInputs, Declares}
+use Rattle.net_lang.proofs.Knowing.{known_declared, known_input}
+use Rattle.net_lang.proofs.Sound.{keeps, sound_inputs}
 use Rattle.net_lang.proofs.Drafts.{parts_inputs}
 
 -- of the names that are to be declared behind `old`, some are declared and some are left

@@ -1,29 +1,26 @@
 -- What is kept of the lines before, and the rules by it.
-use Rattle.std.proofs.Common.{◌≡◌, ℕ, zero, suc, ◌+◌, ◌^◌, ◌≤◌, ◌<◌, Bool, true, false, cond, not, ◌&&◌, ◌||◌, ltb, List, [], ◌∷◌, ◌++◌, length, map, vec_len, Option, Some, None, refl, sym, ap, subst, ◌∙◌, arith, inl, inr}
-use Rattle.std.specs.Prelude.{min, is_some, ◌⊎◌, sum_by, slice_index_or}
-use Rattle.std.specs.List.{list_any, list_all, AllByRecursion}
+use Rattle.std.proofs.Common.{◌≡◌, ℕ, zero, suc, ◌+◌, ◌^◌, ◌≤◌, ◌<◌, Bool, true, false, cond, not, ◌||◌, ltb, List, [], ◌∷◌, ◌++◌, length, vec_len, Option, Some, None, refl, sym, ap, subst, ◌∙◌, arith, inl, inr}
+use Rattle.std.specs.Prelude.{min, is_some, sum_by, slice_index_or}
+use Rattle.std.specs.List.{list_any, AllByRecursion}
 use Rattle.std.specs.Str.{bytes_eq}
-use Rattle.std.proofs.lemmas.Bool.{cases_lt, lt-ltb, le-ltb, ltb-false, or_parts, and_from, and_parts, not-false}
-use Rattle.std.proofs.lemmas.List.{append-nil, append_assoc, map-append, length-append, length-map}
+use Rattle.std.proofs.lemmas.Bool.{cases_lt, lt-ltb, le-ltb, ltb-false, or_parts}
+use Rattle.std.proofs.lemmas.List.{append_assoc, length-append, length-map}
 use Rattle.std.proofs.lemmas.List.Sums.{sum_by-append, sum_by-cons}
-use Rattle.std.proofs.lemmas.List.Folds.{list_any-append, list_all-append}
 use Rattle.net_lang.specs.declared.reader.scope.Known.{Known}
 use Rattle.net_lang.specs.declared.reader.scope.Place.TheVariants as place
 use Rattle.net_lang.specs.declared.reader.draft.Draft as source
-use Rattle.net_lang.specs.declared.reader.rules.Rule.{Rule}
-use Rattle.net_lang.specs.declared.reader.rules.Rule.TheVariants as rule
 use Rattle.net_lang.specs.declared.reader.rules.Stage.{Stage}
 use Rattle.net_lang.specs.declared.reader.rules.Stage.TheVariants as stage
-use Rattle.net_lang.specs.Formula.{Formula, Equation, Net, net}
-use Rattle.net_lang.specs.Rules.{is_let_name, is_port_name, are_distinct, names_of, declared_names, equations, joins, delays, nesting, span, IsOver, AreLets, let_spans, output_spans}
+use Rattle.net_lang.specs.Formula.{Formula, Equation, Net}
+use Rattle.net_lang.specs.Rules.{is_let_name, is_port_name, names_of, declared_names, joins, delays, let_spans}
 use Rattle.net_lang.specs.Grammar.{Expression, written_nesting}
 use Rattle.net_lang.specs.Names.{resolved, knows, place_of}
-use Rattle.net_lang.specs.Forms.{Form, Header, Inputs, Let, Output}
-use Rattle.net_lang.specs.LineRules.{SoFar, allows, equation, extended, some_twice, joins_in, delays_in, is_over, body_span, first_of, first_rule, after}
+use Rattle.net_lang.specs.Forms.{Inputs, Let, Output}
+use Rattle.net_lang.specs.LineRules.{allows, equation, extended, some_twice, joins_in, delays_in, is_over, body_span, first_of, first_rule}
 use Rattle.net_lang.specs.Known.{find, known, known_by, known_in, AddsName, HasSmallPlace, IsSmall, span_at, found_formula, found_span, finds_all, written_joins, written_delays}
-use Rattle.net_lang.specs.Draft.{net_of, so_far, HasParts, IsSound, IsDraft, Adds}
-use Rattle.net_lang.proofs.Sound.{keeps, sound_let, sound_output, sound_inputs}
-use Rattle.net_lang.proofs.Knowing.{place_low, formulas, spans, known_all, known_declared, resolved_joins, resolved_delays, resolved_nesting, resolved_over, IsNew, is_new, known_let, known_output, known_input, let_spans_more, names_more, any_more, eq_comm, or_false}
+use Rattle.net_lang.specs.Draft.{net_of, HasParts, IsSound, IsDraft, Adds}
+use Rattle.net_lang.proofs.Sound.{keeps, sound_let, sound_output}
+use Rattle.net_lang.proofs.Knowing.{place_low, formulas, spans, known_all, known_declared, resolved_joins, resolved_delays, is_new, known_let, known_output, or_false}
 
 -- ---- a draft's look-up is small
 

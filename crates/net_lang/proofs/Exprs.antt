@@ -1,10 +1,10 @@
 -- What is read as an expression is spelled so, and what is spelled so is read.
-use Rattle.std.proofs.Common.{◌≡◌, ℕ, zero, suc, ◌+◌, ◌≤◌, true, List, [], ◌∷◌, ◌++◌, Option, Some, None, refl, sym, ap, subst, ◌∙◌, append_assoc, arith}
+use Rattle.std.proofs.Common.{◌≡◌, ℕ, zero, suc, ◌≤◌, true, List, [], ◌∷◌, ◌++◌, Some, refl, sym, ap, subst, ◌∙◌, append_assoc, arith}
 use Rattle.std.specs.Prelude.{codes, max}
 use Rattle.net_lang.specs.declared.reader.word.Key.{Key}
 use Rattle.net_lang.specs.declared.reader.word.Key.TheVariants as key
 use Rattle.rl_text.specs.Lines.{Word}
-use Rattle.net_lang.specs.Grammar.{Expression, Never, Name, Min, Max, Lt, Inc, name, number, sign, open_, comma, close, spelled, is_plain, IsWritten, written_nesting, Spells}
+use Rattle.net_lang.specs.Grammar.{Expression, Never, Name, Min, Max, Lt, Inc, name, number, open_, comma, close, spelled, is_plain, IsWritten, written_nesting, Spells}
 use Rattle.net_lang.specs.Reading.{◌>>=◌, Read, after_sign, constant, keyword, key_of, pair, delay, leaf, operation, expr_at}
 use Rattle.net_lang.proofs.WordLemmas.{some_is, bind_some, after_sign_some, after_sign-sign, constant_some, constant-number, key_of_name, key_of_text, key_of-name, plain_is, is_plain_key}
 

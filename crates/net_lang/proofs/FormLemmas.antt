@@ -1,5 +1,5 @@
 -- What is read as a form is spelled so, and what is spelled so is read.
-use Rattle.std.proofs.Common.{◌≡◌, ℕ, ◌≤◌, Bool, true, false, cond, List, [], ◌∷◌, ◌++◌, Option, Some, None, refl, sym, ap, subst, ◌∙◌, ◌&&◌}
+use Rattle.std.proofs.Common.{◌≡◌, ℕ, ◌≤◌, Bool, true, false, cond, List, [], ◌∷◌, ◌++◌, Option, Some, None, refl, sym, ap, subst, ◌∙◌}
 use Rattle.std.specs.Prelude.{codes, map}
 use Rattle.std.specs.Str.{bytes_eq}
 use Rattle.std.proofs.lemmas.List.{append-nil}
@@ -7,7 +7,7 @@ use Rattle.std.proofs.lemmas.Slice.Eq.{bytes_eq-Decides}
 use Rattle.rl_text.specs.declared.token.Kind.{Kind}
 use Rattle.rl_text.specs.declared.token.Kind.TheVariants as kind
 use Rattle.rl_text.specs.Lines.{Word}
-use Rattle.net_lang.specs.Grammar.{Expression, name, number, sign, spelled, IsWritten, written_nesting, Spells}
+use Rattle.net_lang.specs.Grammar.{Expression, name, number, sign, spelled, IsWritten, written_nesting}
 use Rattle.net_lang.specs.Forms.{Form, Header, Inputs, Let, Output, spelled_form, IsFormed, IsLine}
 use Rattle.net_lang.specs.FormReading.{is_name, names_at, name_at, ended, binding_at, is_one, nonempty, by_word, form_at}
 use Rattle.net_lang.specs.Reading.{is_number, ◌>>=◌, after_sign, expr_at}

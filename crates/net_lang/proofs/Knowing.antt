@@ -1,22 +1,19 @@
 -- What a look-up of names tells of an expression.
-use Rattle.std.proofs.Common.{◌≡◌, ℕ, zero, suc, ◌+◌, ◌≤◌, ◌<◌, Bool, true, false, cond, ◌&&◌, ◌||◌, List, [], ◌∷◌, ◌++◌, length, map, get_or, Option, Some, None, refl, sym, ap, subst, ◌∙◌, arith}
-use Rattle.std.specs.Prelude.{max, is_some, slice_index_or, fold}
+use Rattle.std.proofs.Common.{◌≡◌, ℕ, suc, ◌+◌, ◌≤◌, ◌<◌, Bool, true, false, cond, ◌&&◌, ◌||◌, List, [], ◌∷◌, ◌++◌, length, Option, Some, None, refl, sym, ap, subst, ◌∙◌, arith}
+use Rattle.std.specs.Prelude.{max, is_some, fold}
 use Rattle.std.specs.List.{list_any}
 use Rattle.std.specs.Str.{bytes_eq}
-use Rattle.std.proofs.lemmas.List.{length-map, append-nil, map-append, get_or_append_left, get_or_at, length-append}
+use Rattle.std.proofs.lemmas.List.{length-map, map-append, get_or_append_left, get_or_at, length-append}
 use Rattle.std.proofs.lemmas.List.Folds.{list_any-append}
 use Rattle.std.proofs.lemmas.List.Sums.{fold-append}
 use Rattle.std.proofs.lemmas.Bool.{or_parts, and_parts}
 use Rattle.std.proofs.lemmas.Slice.Eq.{bytes_eq-Decides}
-use Rattle.net_lang.specs.declared.reader.scope.Known.{Known}
-use Rattle.net_lang.specs.declared.reader.scope.Place.{Place}
 use Rattle.net_lang.specs.declared.reader.scope.Place.TheVariants as place
 use Rattle.net_lang.specs.Formula as f
 use Rattle.net_lang.specs.Formula.{Formula, Equation, Net, net}
 use Rattle.net_lang.specs.Rules.{names_of, declared_names, joins, delays, nesting, span, let_spans, IsOver}
 use Rattle.net_lang.specs.Grammar.{Expression, Never, Name, Min, Max, Lt, Inc, written_nesting}
 use Rattle.net_lang.specs.Names.{place_from, place_of, number_of, named, resolved, knows}
-use Rattle.net_lang.specs.LineRules.{equation}
 use Rattle.net_lang.specs.Known.{known, known_by, known_in, formula_at, found_formula, span_at, found_span, is_value, finds_all, written_joins, written_delays}
 
 -- ---- places

@@ -1,10 +1,10 @@
 -- A text has at most one answer.
-use Rattle.std.proofs.Common.{◌≡◌, ℕ, List, Option, refl, sym, ap, subst, ◌∙◌, inl, inr}
+use Rattle.std.proofs.Common.{◌≡◌, ℕ, List, refl, sym, ap, subst, ◌∙◌, inl, inr}
 use Rattle.std.specs.Prelude.{◌⊎◌, take}
 use Rattle.rl_text.specs.declared.token.Token.{Token}
 use Rattle.rl_text.specs.declared.token.Style.TheVariants as style
 use Rattle.rl_text.specs.Tokens.{line_behind}
-use Rattle.rl_text.specs.Lines.{Line, lines}
+use Rattle.rl_text.specs.Lines.{lines}
 use Rattle.rl_text.proofs.Cuts.{one_list, one_bad, not_both}
 use Rattle.net_lang.specs.declared.reader.rules.Rule.{Rule}
 use Rattle.net_lang.specs.declared.reader.rules.Rule.TheVariants as rule

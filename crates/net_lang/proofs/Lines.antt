@@ -1,24 +1,23 @@
 -- Lines one after the other, as a loop takes them.
-use Rattle.std.proofs.Common.{◌≡◌, ℕ, suc, ◌+◌, ◌≤◌, ◌<◌, Bool, true, false, List, [], ◌∷◌, ◌++◌, length, drop, get_or, Option, Some, None, Result, Ok, Err, refl, sym, ap, subst, ◌∙◌, arith, inl, inr}
-use Rattle.std.specs.Prelude.{map, ◌⊎◌}
+use Rattle.std.proofs.Common.{◌≡◌, ℕ, ◌+◌, ◌≤◌, ◌<◌, true, false, List, [], ◌∷◌, length, drop, get_or, None, refl, sym, ap, subst, ◌∙◌, arith, inl, inr}
+use Rattle.std.specs.Prelude.{map}
 use Rattle.std.proofs.lemmas.List.{drop_more, drop_all, length-append}
 use Rattle.rl_text.specs.declared.words.Line as source
 use Rattle.rl_text.specs.declared.words.Word as source_word
-use Rattle.rl_text.specs.Lines.{Word, Line}
+use Rattle.rl_text.specs.Lines.{Line}
 use Rattle.rl_text.specs.Words.{words, line}
 use Rattle.net_lang.specs.declared.reader.rules.Rule.{Rule}
 use Rattle.net_lang.specs.declared.reader.rules.Rule.TheVariants as rule
 use Rattle.net_lang.specs.declared.reader.rules.Stage.{Stage}
 use Rattle.net_lang.specs.declared.reader.rules.Stage.TheVariants as stage
-use Rattle.net_lang.specs.declared.reader.error.NetError.{NetError}
 use Rattle.net_lang.specs.declared.reader.draft.Draft as kept
-use Rattle.net_lang.specs.Formula.{Equation, Net, net}
+use Rattle.net_lang.specs.Formula.{Net, net}
 use Rattle.net_lang.specs.Forms.{Form, Header, Inputs, Let, Output}
-use Rattle.net_lang.specs.LineRules.{SoFar, nothing_yet, after, extended, equation, joins_in, delays_in}
+use Rattle.net_lang.specs.LineRules.{SoFar, nothing_yet, extended, equation, joins_in, delays_in}
 use Rattle.net_lang.specs.Known.{find, known_in}
 use Rattle.net_lang.specs.Spelling.{Stands, Breaks, may_end, AllStand, FirstBroken}
 use Rattle.net_lang.specs.Draft.{net_of, so_far, HasParts, IsSound, IsDraft, Adds}
-use Rattle.net_lang.specs.Outcome.{error_of, Names, IsWhole}
+use Rattle.net_lang.specs.Outcome.{error_of, Names}
 
 -- the lines before stand, and what is left decides the rest
 pub record Reached (d : kept.Draft) (left all : List Line) (end i : ℕ) : Type 0 where

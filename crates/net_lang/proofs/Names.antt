@@ -1,12 +1,11 @@
 -- Names one after the other, as a loop takes them.
-use Rattle.std.proofs.Common.{◌≡◌, ℕ, ◌+◌, ◌<◌, ◌≤◌, List, [], ◌∷◌, ◌++◌, length, drop, get_or, cond, Bool, true, false, Option, Some, None, refl, sym, ap, ◌∙◌, append_assoc, arith, add-one, drop-cons}
-use Rattle.std.specs.Prelude.{map}
+use Rattle.std.proofs.Common.{◌≡◌, ℕ, ◌+◌, ◌<◌, ◌≤◌, List, [], ◌∷◌, ◌++◌, length, drop, get_or, true, false, Option, Some, None, refl, sym, ap, ◌∙◌, append_assoc, add-one, drop-cons}
 use Rattle.std.proofs.lemmas.List.{append-nil}
 use Rattle.std.proofs.Math.ListN.{drop_of_length-le}
 use Rattle.rl_text.specs.declared.words.Word as source
 use Rattle.rl_text.specs.Lines.{Word}
 use Rattle.rl_text.specs.Words.{word, words}
-use Rattle.net_lang.specs.FormReading.{is_name, name_at, names_at}
+use Rattle.net_lang.specs.FormReading.{is_name, names_at}
 use Rattle.net_lang.specs.Reading.{◌>>=◌}
 
 abbrev pub with_names : List (List ℕ) → Option (List (List ℕ)) → Option (List (List ℕ))

@@ -1,21 +1,18 @@
 -- A line that breaks no rule leaves the rules of networks kept.
-use Rattle.std.proofs.Common.{◌≡◌, ℕ, zero, suc, ◌+◌, ◌≤◌, ◌<◌, Bool, true, false, cond, not, ◌&&◌, ◌||◌, ltb, List, [], ◌∷◌, ◌++◌, length, map, Option, Some, None, refl, sym, ap, subst, ◌∙◌, arith}
-use Rattle.std.specs.Prelude.{sum_by}
+use Rattle.std.proofs.Common.{◌≡◌, ℕ, suc, ◌+◌, ◌≤◌, Bool, true, false, not, ◌&&◌, ◌||◌, ltb, List, [], ◌∷◌, ◌++◌, length, map, None, refl, sym, ap, subst, ◌∙◌, arith}
 use Rattle.std.specs.List.{list_any, list_all, AllByRecursion}
 use Rattle.std.specs.Str.{bytes_eq}
-use Rattle.std.proofs.lemmas.Bool.{ltb-false, or_parts, and_from, and_parts, not-false}
-use Rattle.std.proofs.lemmas.List.{append-nil, append_assoc, map-append, length-append, length-map}
+use Rattle.std.proofs.lemmas.Bool.{ltb-false, or_parts, and_from, and_parts}
+use Rattle.std.proofs.lemmas.List.{append-nil, append_assoc, map-append}
 use Rattle.std.proofs.lemmas.List.Folds.{list_any-append, list_all-append}
-use Rattle.net_lang.specs.declared.reader.rules.Rule.{Rule}
-use Rattle.net_lang.specs.declared.reader.rules.Rule.TheVariants as rule
-use Rattle.net_lang.specs.Formula.{Formula, Equation, Net, net}
-use Rattle.net_lang.specs.Rules.{is_let_name, is_port_name, are_distinct, names_of, declared_names, equations, joins, delays, nesting, span, IsOver, AreLets, let_spans, output_spans}
+use Rattle.net_lang.specs.Formula.{Equation, Net}
+use Rattle.net_lang.specs.Rules.{is_let_name, is_port_name, are_distinct, names_of, declared_names, nesting, span, IsOver, AreLets, let_spans, output_spans}
 use Rattle.net_lang.specs.Grammar.{Expression, written_nesting}
 use Rattle.net_lang.specs.Names.{resolved, knows}
-use Rattle.net_lang.specs.Forms.{Form, Header, Inputs, Let, Output}
-use Rattle.net_lang.specs.LineRules.{equation, extended, has_bad_name, has_doubled_name, has_unknown_name, has_too_many, is_too_late, some_twice, names_declared, joins_in, delays_in, is_over, body_span, first_of, first_rule}
+use Rattle.net_lang.specs.Forms.{Form, Inputs, Let, Output}
+use Rattle.net_lang.specs.LineRules.{equation, extended, has_bad_name, has_doubled_name, has_unknown_name, has_too_many, is_too_late, some_twice, joins_in, delays_in, first_of, first_rule}
 use Rattle.net_lang.specs.Draft.{IsSound}
-use Rattle.net_lang.proofs.Knowing.{resolved_nesting, resolved_over, let_spans_more, names_more, eq_comm, or_false}
+use Rattle.net_lang.proofs.Knowing.{resolved_nesting, resolved_over, let_spans_more, names_more, eq_comm}
 
 -- a line that breaks no rule
 pub record Keeps (n : Net) (f : Form) : Type 0 where

@@ -1,6 +1,5 @@
 -- A line stands or breaks a rule, and not both.
-use Rattle.std.proofs.Common.{◌≡◌, ◌≤◌, ℕ, Bool, true, false, cond, ◌||◌, ltb, List, [], ◌∷◌, length, Option, Some, None, Result, Ok, Err, refl, sym, ap, subst, ◌∙◌, inl, inr, arith}
-use Rattle.std.specs.Prelude.{◌⊎◌}
+use Rattle.std.proofs.Common.{◌≡◌, ℕ, Bool, true, false, cond, ltb, List, [], ◌∷◌, length, Option, Some, None, Result, Ok, Err, refl, sym, ap, subst, ◌∙◌, inl, inr}
 use Rattle.std.proofs.lemmas.Bool.{le-ltb}
 use Rattle.rl_text.specs.Lines.{Word, Line}
 use Rattle.net_lang.specs.declared.reader.rules.Rule.{Rule}
@@ -11,11 +10,11 @@ use Rattle.net_lang.specs.declared.reader.draft.Draft as source
 use Rattle.net_lang.specs.declared.reader.draft.LineError.{LineError}
 use Rattle.net_lang.specs.declared.reader.draft.LineError.TheVariants.{Broken, NoMemory}
 use Rattle.net_lang.specs.Formula.{Net}
-use Rattle.net_lang.specs.Forms.{Form, Header, Inputs, Let, Output, IsLine, IsFormed}
+use Rattle.net_lang.specs.Forms.{Form, Header, IsLine, IsFormed}
 use Rattle.net_lang.specs.FormReading.{form_at}
 use Rattle.net_lang.specs.LineRules.{SoFar, allows, after, extended, first_rule, has_bad_name, has_doubled_name, has_unknown_name, has_too_many, is_too_late, joins_in, delays_in}
 use Rattle.net_lang.specs.Spelling.{Stands, Breaks, may_end, AllStand, FirstBroken}
-use Rattle.net_lang.specs.Draft.{net_of, so_far, HasParts, IsSound, IsDraft, Adds, Judges, IsJudged}
+use Rattle.net_lang.specs.Draft.{net_of, so_far, HasParts, IsDraft, Adds, Judges, IsJudged}
 use Rattle.net_lang.proofs.WordLemmas.{some_is}
 use Rattle.net_lang.proofs.FormLemmas.{form_some, form_again}
 

@@ -1,8 +1,8 @@
 -- What the lines of a text say of the text.
-use Rattle.std.proofs.Common.{◌≡◌, ℕ, suc, ◌+◌, ◌≤◌, ◌<◌, ◌^◌, Bool, true, false, List, [], ◌∷◌, ◌++◌, length, map, take, Option, Some, None, Result, Ok, Err, refl, sym, ap, subst, ◌∙◌, arith, inl, inr}
-use Rattle.std.specs.Prelude.{flat_map, ◌⊎◌, count_by}
+use Rattle.std.proofs.Common.{◌≡◌, ℕ, ◌+◌, ◌≤◌, ◌<◌, ◌^◌, Bool, true, List, [], ◌∷◌, ◌++◌, length, map, take, Option, Some, None, refl, ap, subst, ◌∙◌, arith, inl, inr}
+use Rattle.std.specs.Prelude.{flat_map, ◌⊎◌}
 use Rattle.std.specs.List.{slice_split}
-use Rattle.std.proofs.lemmas.List.{length-append, length-map, append-nil, take_all}
+use Rattle.std.proofs.lemmas.List.{length-append, length-map, take_all}
 use Rattle.std.proofs.lemmas.List.Splits.{length-slice_split}
 use Rattle.std.proofs.lemmas.List.Sums.{count_by-le-length}
 use Rattle.rl_text.specs.declared.words.Line as source
@@ -10,8 +10,8 @@ use Rattle.rl_text.specs.declared.token.Kind.{Kind}
 use Rattle.rl_text.specs.declared.token.Token.{Token}
 use Rattle.rl_text.specs.declared.token.Style.{Style}
 use Rattle.rl_text.specs.declared.token.Style.TheVariants as style
-use Rattle.rl_text.specs.Pieces.{Piece, is_piece, joined, AreLongest, Begins}
-use Rattle.rl_text.specs.Tokens.{token, with_token, tokens_of, line_behind, AreTokens, IsBad}
+use Rattle.rl_text.specs.Pieces.{Piece, is_piece, joined, AreLongest}
+use Rattle.rl_text.specs.Tokens.{with_token, tokens_of, line_behind, AreTokens, IsBad}
 use Rattle.rl_text.specs.Lines.{Line, line_of, lines, ends_line}
 use Rattle.rl_text.specs.Words.{line}
 use Rattle.rl_text.proofs.Cuts.{stops_at_end}
@@ -24,9 +24,9 @@ use Rattle.net_lang.specs.declared.reader.error.NetError.TheVariants as error
 use Rattle.net_lang.specs.declared.reader.draft.Draft as kept
 use Rattle.net_lang.specs.Formula.{Net}
 use Rattle.net_lang.specs.Rules.{IsNetwork}
-use Rattle.net_lang.specs.LineRules.{SoFar, nothing_yet}
+use Rattle.net_lang.specs.LineRules.{nothing_yet}
 use Rattle.net_lang.specs.Spelling.{may_end, AllStand, FirstBroken, SpellsNetwork, HasBadByte, BreaksFirst}
-use Rattle.net_lang.specs.Draft.{net_of, so_far, HasParts, IsSound, IsDraft}
+use Rattle.net_lang.specs.Draft.{net_of, so_far, HasParts, IsDraft}
 use Rattle.net_lang.specs.Outcome.{Names, IsCause}
 
 -- ---- a text has few lines

@@ -1,5 +1,5 @@
 -- What a form of the code is.
-use Rattle.std.specs.Prelude.{ℕ, List, map}
+use Rattle.std.specs.Prelude.{map}
 use Rattle.net_lang.specs.declared.reader.form.Form as source
 use Rattle.net_lang.specs.declared.reader.form.Form.TheVariants as f
 use Rattle.net_lang.specs.Forms.{Form, Header, Inputs, Let, Output}

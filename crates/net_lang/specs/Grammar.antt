@@ -1,6 +1,5 @@
 -- The grammar of expressions: which words each is spelled by.
 use Rattle.std.specs.Prelude.{◌≡◌, ◌≤◌, ℕ, suc, max, Bool, true, false, not, ◌==◌, List, [], ◌∷◌, ◌++◌, codes}
-use Rattle.rl_text.specs.declared.token.Kind.{Kind}
 use Rattle.rl_text.specs.declared.token.Kind.TheVariants as kind
 use Rattle.rl_text.specs.Lines.{Word}
 use Rattle.net_lang.specs.Rules.{is_reserved}

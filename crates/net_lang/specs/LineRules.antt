@@ -1,12 +1,12 @@
 -- The rules that a line of a network keeps, with respect to the lines before it.
-use Rattle.std.specs.Prelude.{ℕ, ◌+◌, Bool, true, false, not, ◌&&◌, ◌||◌, if◌then◌else◌, nat_lt, List, [], ◌∷◌, ◌++◌, length, Option, Some, None, sum_by}
+use Rattle.std.specs.Prelude.{ℕ, Bool, true, false, not, ◌||◌, if◌then◌else◌, nat_lt, List, [], ◌∷◌, ◌++◌, length, Option, Some, None, sum_by}
 use Rattle.std.specs.List.{list_any, list_all}
 use Rattle.std.specs.Str.{bytes_eq}
 use Rattle.net_lang.specs.declared.reader.rules.Rule.{Rule}
 use Rattle.net_lang.specs.declared.reader.rules.Rule.TheVariants as rule
 use Rattle.net_lang.specs.declared.reader.rules.Stage.{Stage}
 use Rattle.net_lang.specs.declared.reader.rules.Stage.TheVariants as stage
-use Rattle.net_lang.specs.Formula.{Formula, Equation, Net, net}
+use Rattle.net_lang.specs.Formula.{Equation, Net, net}
 use Rattle.net_lang.specs.Rules.{is_let_name, is_port_name, declared_names, equations, joins, delays, span, let_spans}
 use Rattle.net_lang.specs.Grammar.{Expression}
 use Rattle.net_lang.specs.Names.{resolved, knows}

@@ -1,10 +1,10 @@
 -- What the names of a network in the making stand for.
-use Rattle.std.specs.Prelude.{ℕ, ◌+◌, ◌*◌, ◌-◌, Bool, true, false, ◌&&◌, if◌then◌else◌, List, [], ◌∷◌, ◌++◌, Option, Some, None, slice_index_or}
+use Rattle.std.specs.Prelude.{ℕ, ◌+◌, ◌*◌, ◌-◌, Bool, true, ◌&&◌, if◌then◌else◌, List, [], ◌∷◌, ◌++◌, Option, Some, None}
 use Rattle.std.specs.List.{list_any}
 use Rattle.std.specs.Str.{bytes_eq}
 use Rattle.net_lang.specs.Formula as f
 use Rattle.net_lang.specs.Formula.{Formula, Net}
-use Rattle.net_lang.specs.Rules.{names_of, let_spans}
+use Rattle.net_lang.specs.Rules.{names_of}
 use Rattle.net_lang.specs.Grammar.{Expression, Never, Name, Min, Max, Lt, Inc}
 
 -- the place of a name among names, where the first of them has the place i

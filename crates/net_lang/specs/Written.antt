@@ -1,5 +1,5 @@
 -- What the expression of the code is.
-use Rattle.std.specs.Prelude.{◌≡◌, ℕ, List, Option, Some, None, Result, Ok, Err}
+use Rattle.std.specs.Prelude.{◌≡◌, Option, Some, None, Result, Ok, Err}
 use Rattle.net_lang.specs.declared.reader.written.Written.{Written}
 use Rattle.net_lang.specs.declared.reader.written.Written.TheVariants as w
 use Rattle.net_lang.specs.declared.reader.reading.ReadError.{ReadError}

@@ -1,6 +1,6 @@
 -- How a run ends on a file whose bytes are told.
-use Rattle.std.proofs.Common.{◌≡◌, ℕ, ◌<◌, ◌≤◌, List, length, take, Option, Some, None, Result, Ok, Err, refl, sym, ◌∙◌, ap, subst, arith, inl, inr}
-use Rattle.std.specs.Prelude.{◌⊎◌, IsSomeAnd, IsSome, OnOk, OnErr}
+use Rattle.std.proofs.Common.{◌≡◌, ℕ, ◌<◌, ◌≤◌, List, length, take, Option, Some, None, Result, Ok, Err, refl, ◌∙◌, ap, subst, arith, inl, inr}
+use Rattle.std.specs.Prelude.{◌⊎◌, IsSomeAnd, OnOk, OnErr}
 use Rattle.net_lang.specs.Formula.{Net}
 use Rattle.net_lang.specs.Spelling.{SpellsNetwork}
 use Rattle.gate_lower.specs.Written.{written_bits}

@@ -1,17 +1,16 @@
 -- Where time is level, a module does what its network says.
-use Rattle.std.proofs.Common.{◌≡◌, ℕ, zero, suc, ◌+◌, ◌<◌, ◌≤◌, Bool, false, List, [], ◌∷◌, length, get_or, map, refl, ap, ◌∙◌, sym, subst, arith, Option, Some, None}
+use Rattle.std.proofs.Common.{◌≡◌, ℕ, zero, suc, ◌+◌, Bool, false, List, [], ◌∷◌, length, get_or, map, refl, ap, ◌∙◌, sym, subst, arith, Some}
 use Rattle.std.specs.Prelude.{slice_get}
 use Rattle.std.proofs.lemmas.List.{length-map}
 use Rattle.rl_time.specs.declared.time.Time.{Time}
 use Rattle.rl_time.specs.Time.{has_risen}
 use Rattle.net_lang.specs.Formula.{Net}
-use Rattle.net_lang.specs.Value.{space_time_function}
 use Rattle.verilog_text.specs.Circuit.{Circuit}
 use Rattle.verilog_text.specs.Valid.{IsValid, IsOrdered}
 use Rattle.verilog_text.specs.Meaning.{State, IsSettled, Follows, IsHistory, HasOneHistory, levels_at, levels_from}
 use Rattle.gate_lower.specs.Netlist.{Output, Netlist}
 use Rattle.gate_lower.specs.Rules.{output_names}
-use Rattle.gate_lower.specs.Timing.{line_time, IsRightAt, TimeIsLevel, AreGatesOf}
+use Rattle.gate_lower.specs.Timing.{line_time, TimeIsLevel, AreGatesOf}
 use Rattle.rl_flow.specs.Compiled.{Realises}
 
 -- each state of a history is settled

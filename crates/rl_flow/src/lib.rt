@@ -3,7 +3,7 @@
 
 mod command;
 mod compile;
-mod laws;
+pub mod laws;
 mod refusal;
 mod running;
 mod status;

@@ -138,7 +138,8 @@ fn numbers_are_judged(rt: HostRuntime) {
         b"racenet 1\ninput a\noutput y = inc(a, 01)\n",
         NetError::Syntax(3),
     );
-    let span = b"racenet 1\ninput a\nlet p = inc(a, 999999)\noutput y = inc(p, 1)\noutput z = inc(p, 2)\n";
+    let span =
+        b"racenet 1\ninput a\nlet p = inc(a, 999999)\noutput y = inc(p, 1)\noutput z = inc(p, 2)\n";
     check_refused(&rt, alloc, span, NetError::Span(5));
     check_refused(
         &rt,

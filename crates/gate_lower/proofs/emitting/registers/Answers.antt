@@ -1,4 +1,4 @@
-use Rattle.std.proofs.Common.{◌≡◌, sym, subst, ◌∙◌, arith}
+use Rattle.std.proofs.Common.{◌≡◌, arith}
 use Rattle.gate_lower.specs.Rules.{delay_bits}
 use Rattle.gate_lower.proofs.Fitting.{delays_fit, counted, registers_are}
 use Rattle.gate_lower.proofs.emitting.registers.Goals as goal

@@ -1,5 +1,4 @@
 use Rattle.std.proofs.Common.{◌≡◌, ◌+◌, ap, ◌∙◌}
-use Rattle.verilog_text.specs.Circuit.{Register}
 use Rattle.verilog_text.specs.View.{logic}
 use Rattle.gate_lower.specs.Plain.{register_name}
 use Rattle.gate_lower.proofs.Fitting.{chain_step}

@@ -1,8 +1,5 @@
-use Rattle.std.proofs.Common.{arith, ap}
-use Rattle.std.specs.Prelude.{length}
-use Rattle.net_lang.specs.Formula.{Net}
-use Rattle.gate_lower.specs.Written.{written, written_lets}
-use Rattle.gate_lower.proofs.Counts.{few, has_room, starts_empty, all_written}
+use Rattle.std.proofs.Common.{arith}
+use Rattle.gate_lower.proofs.Counts.{few, has_room, starts_empty}
 use Rattle.gate_lower.proofs.written.write.Goals as goal
 
 pub lets-requires-2-clause-delays : goal.lets-requires-2-clause-delays

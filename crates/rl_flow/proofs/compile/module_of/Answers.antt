@@ -1,4 +1,3 @@
-use Rattle.gate_lower.specs.Written.{written_netlist}
 use Rattle.rl_flow.proofs.Right.{realises}
 use Rattle.rl_flow.proofs.compile.module_of.Goals as goal
 

@@ -1,4 +1,4 @@
-use Rattle.std.proofs.Common.{◌∙◌, subst, ap}
+use Rattle.std.proofs.Common.{◌∙◌, subst}
 use Rattle.std.specs.Prelude.{◌≡◌, ◌++◌, codes, decimal}
 use Rattle.rl_io.specs.Files.{Adds}
 use Rattle.rl_flow.proofs.Putting.{weaker, Part, part_of_second}

@@ -1,6 +1,6 @@
-use Rattle.std.proofs.Common.{◌≡◌, refl, sym, ap, ◌∙◌, List, ℕ, length}
+use Rattle.std.proofs.Common.{sym, ◌∙◌}
 use Rattle.std.proofs.lemmas.List.{map_push}
-use Rattle.net_lang.proofs.Names.{with_names, one_more, none_more, all_done, with_names-nil}
+use Rattle.net_lang.proofs.Names.{one_more, none_more, all_done}
 use Rattle.net_lang.proofs.reader.form.names_at.Goals as goal
 
 pub returns : goal.returns

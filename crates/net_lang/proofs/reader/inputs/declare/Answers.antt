@@ -1,4 +1,4 @@
-use Rattle.std.proofs.Common.{refl, ap, sym, ◌∙◌, ℕ, List, ◌+◌, ◌++◌, [], ◌∷◌, arith}
+use Rattle.std.proofs.Common.{ap, ◌∙◌, ℕ, List, ◌++◌, [], ◌∷◌, arith}
 use Rattle.net_lang.proofs.Declaring.{begins, turn, found, all_done}
 use Rattle.net_lang.proofs.reader.inputs.declare.Goals as goal
 

@@ -1,4 +1,4 @@
-use Rattle.std.proofs.Common.{◌≡◌, refl, ap, sym, ◌∙◌, ℕ, List, Bool, true, false, not, ◌+◌, ◌++◌, ◌<◌, ◌≤◌, arith, length, vec_len}
+use Rattle.std.proofs.Common.{refl, ap, true, false, arith, length}
 use Rattle.net_lang.specs.Draft.{net_of}
 use Rattle.net_lang.specs.Forms.{Inputs}
 use Rattle.net_lang.proofs.Declaring.{all_now, knows_inputs, name_broken, twice_broken, many_broken, inputs_kept, not_fresh, fresh, good_names}

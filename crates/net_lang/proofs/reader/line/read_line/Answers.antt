@@ -1,4 +1,4 @@
-use Rattle.std.proofs.Common.{◌≡◌, sym, ap, ◌∙◌}
+use Rattle.std.proofs.Common.{sym, ◌∙◌}
 use Rattle.rl_text.specs.Words.{words}
 use Rattle.net_lang.specs.FormView.{form}
 use Rattle.net_lang.specs.Draft.{so_far}

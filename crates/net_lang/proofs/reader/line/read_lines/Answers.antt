@@ -1,4 +1,4 @@
-use Rattle.std.proofs.Common.{◌≡◌, refl, sym, ap, ◌∙◌, arith}
+use Rattle.std.proofs.Common.{refl, arith}
 use Rattle.std.specs.Prelude.{map}
 use Rattle.rl_text.specs.Words.{line}
 use Rattle.net_lang.specs.LineRules.{nothing_yet}

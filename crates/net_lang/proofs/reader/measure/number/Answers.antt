@@ -1,6 +1,5 @@
-use Rattle.std.proofs.Common.{◌≡◌, ◌+◌, ◌*◌, ◌-◌, refl, sym, ap, ◌∙◌, arith, get_or, ℕ, List, drop}
+use Rattle.std.proofs.Common.{◌≡◌, ◌+◌, ◌*◌, ◌-◌, sym, ◌∙◌, arith, get_or}
 use Rattle.std.specs.Prelude.{min}
-use Rattle.net_lang.specs.Names.{number_from}
 use Rattle.net_lang.proofs.Numbers.{step}
 use Rattle.net_lang.proofs.reader.measure.number.Goals as goal
 

@@ -1,4 +1,4 @@
-use Rattle.std.proofs.Common.{◌≡◌, ◌≤◌, ℕ, drop}
+use Rattle.std.proofs.Common.{◌≡◌, ◌≤◌, drop}
 use Rattle.std.specs.Prelude.{min}
 use Rattle.net_lang.specs.Names.{number_from, number_of}
 use Rattle.net_lang.proofs.reader.measure.number.Given as goal

@@ -1,8 +1,6 @@
-use Rattle.std.proofs.Common.{◌≡◌, refl, sym, ap, ◌∙◌, arith, length}
-use Rattle.std.specs.Prelude.{map}
+use Rattle.std.proofs.Common.{ap, ◌∙◌, arith, length}
 use Rattle.rl_text.specs.Lines.{lines}
-use Rattle.rl_text.specs.Words.{line}
-use Rattle.net_lang.proofs.Whole.{few_lines, is_network, spells, end_line, cause_of, bad_cause}
+use Rattle.net_lang.proofs.Whole.{few_lines, spells}
 use Rattle.net_lang.proofs.reader.network.read_network.Goals as goal
 
 pub read_lines-requires : goal.read_lines-requires

@@ -1,4 +1,4 @@
-use Rattle.std.proofs.Common.{refl, ap, sym, ◌∙◌, ℕ, List, ◌+◌}
+use Rattle.std.proofs.Common.{refl, ap, ◌∙◌, ℕ, List, ◌+◌}
 use Rattle.net_lang.specs.Formula.{Equation, net}
 use Rattle.net_lang.specs.Written.{expression}
 use Rattle.net_lang.specs.View.{formula}

@@ -1,4 +1,4 @@
-use Rattle.std.proofs.Common.{ℕ, ◌+◌, ◌*◌}
+use Rattle.std.proofs.Common.{◌+◌, ◌*◌}
 use Rattle.net_lang.proofs.reader.reading.+expr.Given as goal
 
 abbrev pub decreases-expr : goal.decreases-expr
