@@ -3,7 +3,7 @@
 #![tactic(auto)]
 
 use rl_flow::{Status, run};
-use rl_io::{FileShelf, StdSink};
+use rl_io::{FileShelf, StdSink, put_all};
 use std::alloc::AllocError;
 use std::env;
 use std::process::ExitCode;
@@ -27,7 +27,10 @@ fn main(rt: HostRuntime) -> ExitCode {
     let mut err = StdSink::err(&rt);
     let status = match words(&rt) {
         Ok(words) => run(rt.alloc(), words.as_slice(), &mut shelf, &mut out, &mut err),
-        Err(_) => Status::NoMemory,
+        Err(_) => {
+            let _ = put_all(&mut err, b"racelog: no memory\n");
+            Status::NoMemory
+        }
     };
     ExitCode::from(status.code())
 }

@@ -112,7 +112,8 @@ fn lines_end_and_stages_are_kept(rt: HostRuntime) {
 fn rules_of_a_line_have_an_order(rt: HostRuntime) {
     let alloc = rt.alloc();
     let own_name = b"racenet 1\ninput a\nlet p = min(p, a)\noutput y = p\n";
-    let name_and_doubled = b"racenet 1\ninput a\noutput min = a\n";
+    let name_alone = b"racenet 1\ninput a\noutput min = a\n";
+    let name_and_doubled = b"racenet 1\ninput a\nlet _p = a\noutput _p = a\n";
     let name_and_unknown = b"racenet 1\ninput a\noutput _y = b\n";
     let name_and_span = b"racenet 1\ninput a\nlet inc = inc(a, 1000001)\n";
     let doubled_and_unknown = b"racenet 1\ninput a\nlet a = b\n";
@@ -120,13 +121,71 @@ fn rules_of_a_line_have_an_order(rt: HostRuntime) {
     let unknown_and_span = b"racenet 1\ninput a\nlet b = inc(c, 1000001)\n";
     let later_syntax = b"racenet 1\ninput a\nlet a = a\nlet =\n";
     check_refused(&rt, alloc, own_name, NetError::Unknown(3));
-    check_refused(&rt, alloc, name_and_doubled, NetError::Name(3));
+    check_refused(&rt, alloc, name_alone, NetError::Name(3));
+    check_refused(&rt, alloc, name_and_doubled, NetError::Name(4));
     check_refused(&rt, alloc, name_and_unknown, NetError::Name(3));
     check_refused(&rt, alloc, name_and_span, NetError::Name(3));
     check_refused(&rt, alloc, doubled_and_unknown, NetError::Doubled(3));
     check_refused(&rt, alloc, doubled_and_span, NetError::Doubled(3));
     check_refused(&rt, alloc, unknown_and_span, NetError::Unknown(3));
     check_refused(&rt, alloc, later_syntax, NetError::Doubled(3));
+}
+
+// An output with 2 ^ depth - 1 operators, all in one expression, delayed by so many cycles.
+fn tree(alloc: Global, name: &[u8], leaf: &[u8], depth: u32, by: &[u8]) -> Result<Vec<u8>, Fail> {
+    let mut body = leaf.to_vec(alloc)?;
+    for _ in 0..depth {
+        let mut next = b"min(".to_vec(alloc)?;
+        next.extend_from_slice(&body)?;
+        next.extend_from_slice(b",")?;
+        next.extend_from_slice(&body)?;
+        next.extend_from_slice(b")")?;
+        body = next;
+    }
+    let mut text = b"racenet 1\ninput a\noutput ".to_vec(alloc)?;
+    text.extend_from_slice(name)?;
+    text.extend_from_slice(b" = inc(")?;
+    text.extend_from_slice(&body)?;
+    text.extend_from_slice(b", ")?;
+    text.extend_from_slice(by)?;
+    text.extend_from_slice(b")\n")?;
+    Ok(text)
+}
+
+// The reader's error on a text that a test has built.
+fn error_of(rt: &impl Abort, alloc: Global, text: &[u8]) -> Option<NetError> {
+    assert!(rt; text.len() <= 1048576);
+    read_network(alloc, text).err()
+}
+
+#[test]
+fn too_many_operators_come_before_the_span_alone(rt: HostRuntime) -> Result<(), Fail> {
+    let alloc = rt.alloc();
+    let few = tree(alloc, b"y", b"a", 14, b"1")?;
+    let many = tree(alloc, b"y", b"a", 15, b"1")?;
+    let many_and_late = tree(alloc, b"y", b"a", 15, b"1000001")?;
+    let many_and_unknown = tree(alloc, b"y", b"b", 15, b"1")?;
+    let many_and_doubled = tree(alloc, b"a", b"a", 15, b"1")?;
+    let many_and_name = tree(alloc, b"_y", b"a", 15, b"1")?;
+    assert_eq!(rt; error_of(&rt, alloc, &few), None);
+    assert_eq!(rt; error_of(&rt, alloc, &many), Some(NetError::Count(3)));
+    assert_eq!(rt;
+        error_of(&rt, alloc, &many_and_late),
+        Some(NetError::Count(3))
+    );
+    assert_eq!(rt;
+        error_of(&rt, alloc, &many_and_unknown),
+        Some(NetError::Unknown(3))
+    );
+    assert_eq!(rt;
+        error_of(&rt, alloc, &many_and_doubled),
+        Some(NetError::Doubled(3))
+    );
+    assert_eq!(rt;
+        error_of(&rt, alloc, &many_and_name),
+        Some(NetError::Name(3))
+    );
+    Ok(())
 }
 
 #[test]
