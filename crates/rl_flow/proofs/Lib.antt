@@ -2,3 +2,4 @@ pub mod Right
 pub mod Putting
 pub mod Judging
 pub mod Ending
+pub mod Asking

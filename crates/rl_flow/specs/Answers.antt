@@ -2,10 +2,14 @@
 use Rattle.std.specs.Prelude.{◌≡◌, ◌⊎◌, ℕ, ◌<◌, ◌≤◌, List, length, take, Option, Some, None, IsSome, IsSomeAnd}
 use Rattle.std.specs.Map.{lookup}
 use Rattle.std.specs.Str.{bytes_eq}
-use Rattle.net_lang.specs.declared.reader.rules.Rule.{Rule}
 use Rattle.rl_io.specs.Causes.{Rose}
 use Rattle.rl_io.specs.Files.{Files, OnFile, Adds}
+use Rattle.net_lang.specs.Formula.{Net}
+use Rattle.net_lang.specs.Spelling.{SpellsNetwork}
+use Rattle.gate_lower.specs.Written.{written_bits}
+use Rattle.rl_flow.specs.Task.{Task, Compile, Eval, Command}
 use Rattle.rl_flow.specs.Compiled.{IsModuleText, IsBroken, HasTooManyBits}
+use Rattle.rl_flow.specs.Values.{IsValueText, HasInputs}
 use Rattle.rl_flow.specs.Refusal.{status_of, line_of}
 use Rattle.rl_flow.specs.declared.refusal.Refusal.{Refusal}
 use Rattle.rl_flow.specs.declared.refusal.Refusal.TheVariants as why
@@ -16,12 +20,37 @@ use Rattle.rl_flow.specs.declared.status.Status.TheVariants as end
 abbrev pub limit : ℕ
 limit = 1048576
 
--- what a refusal says of the bytes of a file that was read
-abbrev pub IsCause : List ℕ → Refusal → Type 0
-IsCause bytes (why.Network r line) = IsBroken bytes r line
-IsCause bytes (why.TooManyBits bits) = HasTooManyBits bytes bits
-IsCause bytes why.NoMemory = Unit {0}
-IsCause bytes _ = ⊥
+-- the text that a task makes of the bytes of a file
+abbrev pub IsText : Task → List ℕ → List ℕ → Type 0
+IsText Compile bytes text = IsModuleText bytes text
+IsText (Eval times) bytes text = IsValueText times bytes text
+
+-- the bytes spell a network for which the task can be done
+abbrev pub CanBeDone : Task → List ℕ → Type 0
+CanBeDone Compile bytes = (n : Net) × SpellsNetwork bytes n × (written_bits n ≤ 65536)
+CanBeDone (Eval times) bytes = (n : Net) × SpellsNetwork bytes n × (length times ≡ length n.inputs)
+
+abbrev AreTooMany : Task → List ℕ → ℕ → Type 0
+AreTooMany Compile bytes bits = HasTooManyBits bytes bits
+AreTooMany (Eval times) bytes bits = ⊥
+
+abbrev AreOthers : Task → List ℕ → ℕ → Type 0
+AreOthers Compile bytes count = ⊥
+AreOthers (Eval times) bytes count = HasInputs times bytes count
+
+-- why the bytes of a file spell no network that was read: a rule is broken, or memory ran out
+abbrev pub IsBad : List ℕ → Refusal → Type 0
+IsBad bytes (why.Network r line) = IsBroken bytes r line
+IsBad bytes why.NoMemory = Unit {0}
+IsBad bytes _ = ⊥
+
+-- what a refusal says of a task and the bytes of a file that was read
+abbrev pub IsCause : Task → List ℕ → Refusal → Type 0
+IsCause task bytes (why.Network r line) = IsBroken bytes r line
+IsCause task bytes (why.TooManyBits bits) = AreTooMany task bytes bits
+IsCause task bytes (why.Inputs count) = AreOthers task bytes count
+IsCause task bytes why.NoMemory = Unit {0}
+IsCause task bytes _ = ⊥
 
 -- where the shelf tells its files: the one of this name is longer than the limit
 abbrev pub IsTooLong : Option Files → List ℕ → Type 0
@@ -31,36 +60,48 @@ IsTooLong told file = OnFile told file (λ bytes. limit < length bytes)
 abbrev pub OnBytes : Option Files → List ℕ → (List ℕ → Type 0) → Type 0
 OnBytes told file P = OnFile told file (λ bytes. (length bytes ≤ limit) × P bytes)
 
--- where the shelf tells its files: the one of this name spells a network, and this is the text of its module
-abbrev pub IsCompiled : Option Files → List ℕ → List ℕ → Type 0
-IsCompiled told file text = OnBytes told file (λ bytes. IsModuleText bytes text)
+-- where the shelf tells its files: this is the text that the command makes of its file
+abbrev pub IsAnswer : Option Files → Command → List ℕ → Type 0
+IsAnswer told c text = OnBytes told c.0 (λ bytes. IsText c.1 bytes text)
 
--- the command was done: the sink gained the text of the file's module, and nothing else
-abbrev pub Compiles : Option Files → Option (List ℕ) → Option (List ℕ) → List ℕ → Type 0
-Compiles told out out' file = (text : List ℕ) × IsCompiled told file text × Adds out out' text
+-- the command was done: the sink gained its text, and nothing else
+abbrev pub Answers : Option Files → Option (List ℕ) → Option (List ℕ) → Command → Type 0
+Answers told out out' c = (text : List ℕ) × IsAnswer told c text × Adds out out' text
 
--- the sink gained a proper prefix of the text of the file's module
-abbrev pub WritesPart : Option Files → Option (List ℕ) → Option (List ℕ) → List ℕ → Type 0
-WritesPart told out out' file = (text : List ℕ) × IsCompiled told file text × ((n : ℕ) × (n < length text) × Adds out out' (take n text))
+-- the sink gained a proper prefix of the command's text
+abbrev pub WritesPart : Option Files → Option (List ℕ) → Option (List ℕ) → Command → Type 0
+WritesPart told out out' c = (text : List ℕ) × IsAnswer told c text × ((n : ℕ) × (n < length text) × Adds out out' (take n text))
 
 -- a line was put, or, where the sink's faults rose, a proper prefix of it
 abbrev pub PutsLine : Option (List ℕ) → Option (List ℕ) → ℕ → ℕ → List ℕ → Type 0
 PutsLine err err' faults faults' line =
     Adds err err' line ⊎ (Rose faults faults' × ((n : ℕ) × (n < length line) × Adds err err' (take n line)))
 
+-- why a file could not be read: rose says of a name that its faults rose, much that more bytes than the limit were handed out
+abbrev pub IsUnread : List ℕ → Option Files → (List ℕ → Type 0) → Type 0 → Refusal → Type 0
+IsUnread file told rose much why.TooLong = IsTooLong told file × much
+IsUnread file told rose much why.ReadFault = rose file
+IsUnread file told rose much why.NoMemory = Unit {0}
+IsUnread file told rose much _ = ⊥
+
+-- the cause of a refusal for which the bytes of the file are judged
+abbrev IsJudged : Option Command → Option Files → Refusal → Type 0
+IsJudged command told r = IsSomeAnd command (λ c. OnBytes told c.0 (λ bytes. IsCause c.1 bytes r))
+
 -- the cause of each refusal of a command: rose f says that the faults of the name f rose, much that more bytes than the limit were
 -- handed out, failed that the faults of standard output rose
-abbrev pub HasCause : Option (List ℕ) → Option Files → (List ℕ → Type 0) → Type 0 → Type 0 → Refusal → Type 0
+abbrev pub HasCause : Option Command → Option Files → (List ℕ → Type 0) → Type 0 → Type 0 → Refusal → Type 0
 HasCause command told rose much failed why.Words = command ≡ None
-HasCause command told rose much failed why.TooLong = IsSomeAnd command (IsTooLong told) × much
-HasCause command told rose much failed (why.Network r line) = IsSomeAnd command (λ file. OnBytes told file (λ bytes. IsBroken bytes r line))
-HasCause command told rose much failed (why.TooManyBits bits) = IsSomeAnd command (λ file. OnBytes told file (λ bytes. HasTooManyBits bytes bits))
-HasCause command told rose much failed why.ReadFault = IsSomeAnd command rose
+HasCause command told rose much failed why.TooLong = IsSomeAnd command (λ c. IsTooLong told c.0) × much
+HasCause command told rose much failed (why.Network r line) = IsJudged command told (why.Network r line)
+HasCause command told rose much failed (why.TooManyBits bits) = IsJudged command told (why.TooManyBits bits)
+HasCause command told rose much failed (why.Inputs count) = IsJudged command told (why.Inputs count)
+HasCause command told rose much failed why.ReadFault = IsSomeAnd command (λ c. rose c.0)
 HasCause command told rose much failed why.WriteFault = IsSome command × failed
 HasCause command told rose much failed why.NoMemory = IsSome command
 
 -- what each refusal leaves in standard output
-abbrev pub Leaves : Option (List ℕ) → Option Files → Option (List ℕ) → Option (List ℕ) → Refusal → Type 0
+abbrev pub Leaves : Option Command → Option Files → Option (List ℕ) → Option (List ℕ) → Refusal → Type 0
 Leaves command told out out' why.WriteFault = IsSomeAnd command (WritesPart told out out')
 Leaves command told out out' _ = out' ≡ out
 
@@ -69,25 +110,24 @@ abbrev pub Tells : Option Files → List ℕ → List ℕ → Type 0
 Tells None file bytes = ⊥
 Tells (Some files) file bytes = lookup (bytes_eq file) files ≡ Some bytes
 
--- where the shelf tells its files, the one of this name is refused: it is too long, breaks a rule, or has too many register bits
-abbrev pub IsRefused : Option Files → List ℕ → Type 0
-IsRefused told file =
-    IsTooLong told file ⊎ (((r : Rule) × ((line : ℕ) × OnBytes told file (λ bytes. IsBroken bytes r line))) ⊎ ((bits : ℕ) × OnBytes told file (λ bytes. HasTooManyBits bytes bits)))
+-- where the shelf tells its files: the command's file is too long, or its bytes are refused
+abbrev pub IsRefused : Option Files → Command → Type 0
+IsRefused told c = IsTooLong told c.0 ⊎ ((r : Refusal) × (status_of r ≡ end.Refused) × OnBytes told c.0 (λ bytes. IsCause c.1 bytes r))
 
 -- what each status says: of the words, of the file that they name, and of the faults that rose
-abbrev pub Says : Option (List ℕ) → Option Files → (List ℕ → Type 0) → Type 0 → Status → Type 0
+abbrev pub Says : Option Command → Option Files → (List ℕ → Type 0) → Type 0 → Status → Type 0
 Says command told rose failed end.Done = IsSome command
 Says command told rose failed end.No = ⊥
 Says command told rose failed end.Words = command ≡ None
 Says command told rose failed end.Refused = IsSomeAnd command (IsRefused told)
-Says command told rose failed end.ReadFault = IsSomeAnd command rose
+Says command told rose failed end.ReadFault = IsSomeAnd command (λ c. rose c.0)
 Says command told rose failed end.WriteFault = IsSome command × failed
 Says command told rose failed end.NoMemory = IsSome command
 Says command told rose failed end.Undecided = ⊥
 
 -- what each status leaves in standard output: the whole text, a proper prefix of it, or nothing new
-abbrev pub Wrote : Option (List ℕ) → Option Files → Option (List ℕ) → Option (List ℕ) → Status → Type 0
-Wrote command told out out' end.Done = IsSomeAnd command (Compiles told out out')
+abbrev pub Wrote : Option Command → Option Files → Option (List ℕ) → Option (List ℕ) → Status → Type 0
+Wrote command told out out' end.Done = IsSomeAnd command (Answers told out out')
 Wrote command told out out' end.WriteFault = IsSomeAnd command (WritesPart told out out')
 Wrote command told out out' _ = out' ≡ out
 

@@ -1,5 +1,7 @@
 pub mod Status
 pub mod Words
+pub mod Task
+pub mod Values
 pub mod Refusal
 pub mod Compiled
 pub mod Answers

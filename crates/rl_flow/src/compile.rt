@@ -2,7 +2,8 @@ ghost use Rattle.std.specs.Prelude.{◌≡◌, ◌≤◌, ◌<◌, ℕ, length, 
 ghost use Rattle.net_lang.specs.Spelling.{SpellsNetwork};
 ghost use Rattle.gate_lower.specs.Written.{written_bits};
 ghost use Rattle.gate_lower.specs.declared.lower.LowerError.TheVariants.{TooManyBits};
-ghost use Rattle.rl_flow.specs.Answers.{limit, IsCause};
+ghost use Rattle.rl_flow.specs.Task.{Compile};
+ghost use Rattle.rl_flow.specs.Answers.{limit, IsBad, IsCause};
 ghost use Rattle.rl_flow.specs.Compiled.{Realises, compiled_module, IsModuleText};
 
 use crate::refusal::Refusal;
@@ -26,10 +27,10 @@ fn module_of(alloc: Global, n: &Network) -> Result<Module, LowerError>
 }
 
 /// The network of a file's bytes.
-fn network_of(alloc: Global, bytes: &[u8]) -> Result<Network, Refusal>
+pub fn network_of(alloc: Global, bytes: &[u8]) -> Result<Network, Refusal>
     requires { length bytes.now ≤ limit }
     ensures network { IfOk result (SpellsNetwork bytes.now) }
-    ensures cause { IfErr result (IsCause bytes.now) }
+    ensures cause { IfErr result (IsBad bytes.now) }
 {
     match read_network(alloc, bytes) {
         Ok(n) => Ok(n),
@@ -47,7 +48,7 @@ fn network_of(alloc: Global, bytes: &[u8]) -> Result<Network, Refusal>
 pub fn translate(alloc: Global, bytes: &[u8]) -> Result<Vec<u8>, Refusal>
     requires { length bytes.now ≤ limit }
     ensures text { IfOk result (λ text. IsModuleText bytes.now text.items) }
-    ensures cause { IfErr result (IsCause bytes.now) }
+    ensures cause { IfErr result (IsCause Compile bytes.now) }
 {
     let n = network_of(alloc, bytes)?;
     let module = match module_of(alloc, &n) {

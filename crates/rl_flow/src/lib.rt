@@ -3,11 +3,13 @@
 
 mod command;
 mod compile;
+mod evaluate;
 pub mod laws;
 mod refusal;
 mod running;
 mod status;
 mod telling;
+mod values;
 
 pub use refusal::Refusal;
 pub use running::run;

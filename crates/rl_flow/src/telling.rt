@@ -60,6 +60,7 @@ pub fn put_line<K: Sink>(sink: &mut K, refusal: Refusal) -> Result<(), SinkFault
         Refusal::TooLong => put_all(sink, b"racelog: E01 file 1 1048576\n"),
         Refusal::Network(rule, line) => put_numbered(sink, rule_text(rule), u64::from(line)),
         Refusal::TooManyBits(bits) => put_numbered(sink, b"racelog: E20 ", bits),
+        Refusal::Inputs(count) => put_numbered(sink, b"racelog: E51 ", count),
         Refusal::ReadFault => put_all(sink, b"racelog: read fault file 1\n"),
         Refusal::WriteFault => put_all(sink, b"racelog: write fault\n"),
         Refusal::NoMemory => put_all(sink, b"racelog: no memory\n"),

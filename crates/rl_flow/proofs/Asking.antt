@@ -1,0 +1,83 @@
+-- The times that words ask for.
+use Rattle.std.proofs.Common.{◌≡◌, ℕ, ◌<◌, ◌≤◌, ◌^◌, Bool, true, false, List, map, refl, sym, ap, subst, ◌∙◌, arith, Option, Some, None}
+use Rattle.std.specs.Prelude.{nat_le, codes, decimal, slice_index_or, String, string_bytes}
+use Rattle.std.specs.List.{list_all}
+use Rattle.std.specs.declared.alloc.Global.{Global}
+use Rattle.std.proofs.lemmas.List.Folds.{list_all-map}
+use Rattle.std.specs.Str.{bytes_eq}
+use Rattle.std.specs.Str.Parse.{digits_value}
+use Rattle.std.proofs.lemmas.Bool.{le-leb, leb-true}
+use Rattle.std.proofs.lemmas.Fmt.{decimal_is_IsNumeral}
+use Rattle.std.proofs.lemmas.List.Elements.{All-map}
+use Rattle.std.proofs.lemmas.Slice.Eq.{bytes_eq-Decides}
+use Rattle.rl_time.specs.declared.time.Time.{Time}
+use Rattle.rl_time.specs.declared.time.Time.TheVariants as time
+use Rattle.rl_time.specs.Text.{time_text, FitsIn64Bits}
+use Rattle.spike_eval.specs.Early.{IsAtMost, AreEarly}
+use Rattle.rl_flow.specs.Words.{time_word, is_time_word, time_of}
+
+-- r is what a reader gives of each text that some time has
+abbrev pub Reads : List ℕ → Option Time → Type 0
+Reads word r = (t : Time) → FitsIn64Bits t → word ≡ time_text t → r ≡ Some t
+
+-- a word that no time has
+no_time : (word : List ℕ) (p q s : Bool) → bytes_eq word (codes "never") ≡ p → nat_le (digits_value 10 word) 1000000000000 ≡ q → bytes_eq word (decimal (digits_value 10 word)) ≡ s → Reads word None →
+    None ≡ time_word word
+no_time word true q s p' q' s' h = absurd (let e : None ≡ Some time.Never = h time.Never tt ((bytes_eq-Decides word (codes "never")).0 p') in cc)
+no_time word false false s p' q' s' h = rw (p', q') refl
+no_time word false true false p' q' s' h = rw (p', q', s') refl
+no_time word false true true p' q' s' h =
+    let small = leb-true (digits_value 10 word) 1000000000000 q' in
+    absurd (let e : None ≡ Some (time.At (digits_value 10 word)) = h (time.At (digits_value 10 word)) (omega (arith, small)) ((bytes_eq-Decides word (decimal (digits_value 10 word))).0 s') in cc)
+
+pub unread : (word text : List ℕ) → text ≡ word → Reads text None → None ≡ time_word word
+unread word text same h = no_time word _ _ _ refl refl refl (λ t fits is. h t fits (same ∙ is))
+
+value : (word : List ℕ) (n : ℕ) → n < 2 ^ 64 → word ≡ decimal n → digits_value 10 word ≡ n
+value word n fits e = ap (digits_value 10) e ∙ (decimal_is_IsNumeral n fits).1
+
+abbrev pub bounded : ℕ → Bool → Option Time
+bounded n true = Some (time.At n)
+bounded n false = None
+
+-- a word that writes a number
+number : (word : List ℕ) (n : ℕ) (p q : Bool) → bytes_eq word (codes "never") ≡ p → nat_le n 1000000000000 ≡ q → Reads word (Some (time.At n)) → digits_value 10 word ≡ n → word ≡ decimal n →
+    time_word word ≡ bounded n q
+number word n true q p' q' h v e = absurd (let f : Some (time.At n) ≡ Some time.Never = h time.Never tt ((bytes_eq-Decides word (codes "never")).0 p') in cc)
+number word n false false p' q' h v e = rw (p', v, q') refl
+number word n false true p' q' h v e = rw (p', v, q', (bytes_eq-Decides word (decimal n)).1 e) refl
+
+-- what is read of a word with a number's text
+reads_number : (word text : List ℕ) (t : Time) (n : ℕ) → text ≡ word → t ≡ time.At n → Reads text (Some t) → Reads word (Some (time.At n))
+reads_number word text t n same at h u fits is = ap (λ (s : Time). Some s) (sym at) ∙ h u fits (same ∙ is)
+
+pub number_word : (word text : List ℕ) (t : Time) (n : ℕ) (q : Bool) → text ≡ word → t ≡ time.At n → Reads text (Some t) → FitsIn64Bits t × (text ≡ time_text t) → nat_le n 1000000000000 ≡ q →
+    bounded n q ≡ time_word word
+number_word word text t n q same at h w q' =
+    let written = subst (λ (s : Time). FitsIn64Bits s × (text ≡ time_text s)) at w in
+    let e : word ≡ decimal n = sym same ∙ written.1 in
+    sym (number word n _ q refl q' (reads_number word text t n same at h) (value word n written.0 e) e)
+
+pub early : (n : ℕ) → n ≤ 1000000000000 → nat_le n 1000000000000 ≡ true
+early n small = le-leb n 1000000000000 small
+
+pub late : (n : ℕ) → 1000000000000 < n → nat_le n 1000000000000 ≡ false
+late n great = over _ refl where
+  over : (q : Bool) → nat_le n 1000000000000 ≡ q → nat_le n 1000000000000 ≡ false
+  over true f = absurd (let small = leb-true n 1000000000000 f in omega (arith, small, great))
+  over false f = f
+
+-- each time that a word asks for is early
+is_early : (word : List ℕ) (p q s : Bool) → bytes_eq word (codes "never") ≡ p → nat_le (digits_value 10 word) 1000000000000 ≡ q → bytes_eq word (decimal (digits_value 10 word)) ≡ s →
+    IsAtMost 1000000000000 (time_of word)
+is_early word true q s p' q' s' = rw (p') tt
+is_early word false false s p' q' s' = rw (p', q') tt
+is_early word false true false p' q' s' = rw (p', q', s') tt
+is_early word false true true p' q' s' = rw (p', q', s') (leb-true (digits_value 10 word) 1000000000000 q')
+
+pub are_early : (words : List (List ℕ)) → AreEarly (map time_of words)
+are_early words = All-map (IsAtMost 1000000000000) time_of words (λ k d l. is_early (slice_index_or words k d) _ _ _ refl refl refl)
+
+-- a test of the words' texts
+pub all_texts : (words : List (String Global)) → list_all is_time_word (map string_bytes words) ≡ list_all (λ w. is_time_word (string_bytes w)) words
+all_texts words = list_all-map is_time_word string_bytes words
