@@ -1,5 +1,5 @@
 -- What is said of a file's bytes is said but once.
-use Rattle.std.proofs.Common.{◌≡◌, ℕ, ◌<◌, ◌≤◌, List, length, refl, sym, ◌∙◌, ap, subst, arith}
+use Rattle.std.proofs.Common.{◌≡◌, ℕ, ◌<◌, List, length, refl, sym, ◌∙◌, ap, subst, arith}
 use Rattle.net_lang.specs.declared.reader.rules.Rule.{Rule}
 use Rattle.net_lang.specs.declared.reader.rules.Rule.TheVariants as rule
 use Rattle.net_lang.specs.declared.reader.error.NetError.{NetError}
@@ -8,7 +8,7 @@ use Rattle.net_lang.specs.Formula.{Net}
 use Rattle.net_lang.specs.Spelling.{SpellsNetwork}
 use Rattle.net_lang.specs.Outcome as net
 use Rattle.gate_lower.specs.Written.{written_bits}
-use Rattle.rl_flow.specs.Compiled.{IsBroken, HasTooManyBits}
+use Rattle.rl_flow.specs.Compiled.{IsBroken}
 use Rattle.rl_flow.specs.Task.{Task, Compile, Eval}
 use Rattle.rl_flow.specs.Answers.{CanBeDone, IsCause}
 use Rattle.rl_flow.specs.declared.refusal.Refusal.{Refusal}

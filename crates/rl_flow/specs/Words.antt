@@ -11,7 +11,7 @@ use Rattle.rl_time.specs.declared.time.Time.TheVariants.{At, Never}
 abbrev pub is_file_word : List ℕ → Bool
 is_file_word word = nat_le 1 (length word) && nat_le (length word) 4096 && not (slice_index_or word 0 0 == 45)
 
--- the file of the words `compile FILE`; no other words are a command
+-- the file of the words `compile FILE`; none for other words
 abbrev pub compiled_file : List (List ℕ) → Option (List ℕ)
 compiled_file (command ∷ file ∷ []) = if bytes_eq command (codes "compile") && is_file_word file then Some file else None
 compiled_file (a ∷ b ∷ c ∷ words) = None
@@ -32,7 +32,7 @@ is_time_word word = is_some (time_word word)
 abbrev pub time_of : List ℕ → Time
 time_of word = unwrap_or (time_word word) Never
 
--- the file of the words `eval FILE TIME..` and the words of its 1 to 64 times; no other words are a command
+-- the file of the words `eval FILE TIME..` and the words of its 1 to 64 times; none for other words
 abbrev pub evaluated : List (List ℕ) → Option (List ℕ × List (List ℕ))
 evaluated (command ∷ file ∷ times) =
     if bytes_eq command (codes "eval") && is_file_word file && nat_le 1 (length times) && nat_le (length times) 64 && list_all is_time_word times then Some (file, times)

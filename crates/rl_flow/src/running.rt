@@ -129,14 +129,14 @@ pub fn run<S: Shelf, K: Sink>(
     ensures line { result ≢ Status.Done → (why : Refusal) × EndsBy result (K.written err.old) (K.written err.new) (K.faults err.old) (K.faults err.new) why
         × HasCause (command_of (texts_of words.now)) (S.contents shelf.old) (λ f. Rose (S.faults shelf.old f) (S.faults shelf.new f)) (RoseBy limit (S.given shelf.old) (S.given shelf.new)) (Rose (K.faults out.old) (K.faults out.new)) why }
 
-    // A told file that is too long, or that spells no network, or one of too many register bits, is refused with the line that
-    // says so, unless the file could not be read or memory ran out.
+    // A told file that is too long, or whose bytes have a cause to be refused, is refused with the line that says so, unless the
+    // file could not be read or memory ran out.
     ensures too_long { (file bytes : List ℕ) (task : Task) → command_of (texts_of words.now) ≡ Some (file, task) → Tells (S.contents shelf.old) file bytes → limit < length bytes →
         EndsBy result (K.written err.old) (K.written err.new) (K.faults err.old) (K.faults err.new) TooLong ⊎ (result ≡ Status.ReadFault) ⊎ (result ≡ Status.NoMemory) }
     ensures refused { (file bytes : List ℕ) (task : Task) (why : Refusal) → command_of (texts_of words.now) ≡ Some (file, task) → Tells (S.contents shelf.old) file bytes → length bytes ≤ limit → IsCause task bytes why → why ≢ NoMemory →
         EndsBy result (K.written err.old) (K.written err.new) (K.faults err.old) (K.faults err.new) why ⊎ (result ≡ Status.ReadFault) ⊎ (result ≡ Status.NoMemory) }
 
-    // A told network that can be compiled is done where no faults rose, unless memory ran out.
+    // A told file for which the task can be done is done where no faults rose, unless memory ran out.
     ensures complete { (file bytes : List ℕ) (task : Task) → command_of (texts_of words.now) ≡ Some (file, task) → Tells (S.contents shelf.old) file bytes → length bytes ≤ limit → CanBeDone task bytes →
         (Rose (S.faults shelf.old file) (S.faults shelf.new file) → ⊥) → (Rose (K.faults out.old) (K.faults out.new) → ⊥) → (result ≡ Status.Done) ⊎ (result ≡ Status.NoMemory) }
 

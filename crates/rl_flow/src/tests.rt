@@ -1,5 +1,6 @@
 use crate::running::run;
 use crate::status::Status;
+use itoa::Buffer;
 use rl_io::{FileShelf, MemShelf, MemSink, StdSink, are_distinct};
 use std::alloc::{AllocError, Global};
 use std::fs;
@@ -160,6 +161,95 @@ fn compiles_networks_to_modules(rt: HostRuntime) -> Result<(), Fail> {
     expect_module(&rt, alloc, delays, DELAYS_MODULE)
 }
 
+// The words, after `eval f`, give this text.
+fn expect_values(
+    rt: &impl Abort,
+    alloc: Global,
+    file: &[u8],
+    words: &[&str],
+    text: &[u8],
+) -> Result<(), Fail> {
+    let want = (Status::Done, text, b"".as_slice());
+    expect(rt, alloc, file, words, &EASY, want)
+}
+
+const RACE: &[u8] = b"racenet 1
+input a b c
+let ab = min(a, b)
+output pa = lt(a, min(b, c))
+output pb = lt(b, min(a, c))
+output pc = lt(c, ab)
+";
+
+#[test]
+fn tells_values(rt: HostRuntime) -> Result<(), Fail> {
+    let alloc = rt.alloc();
+    let late = b"racenet 1\ninput a\noutput y = inc(a, 1000000)\n";
+    let words = &["eval", "f", "1000000000000"];
+    expect_values(&rt, alloc, late, words, b"y 1000001000000\n")?;
+    let words = &["eval", "f", "never"];
+    expect_values(&rt, alloc, late, words, b"y never\n")?;
+    let words = &["eval", "f", "5", "3", "9"];
+    expect_values(&rt, alloc, RACE, words, b"pa never\npb 3\npc never\n")?;
+    let words = &["eval", "f", "2", "2", "never"];
+    expect_values(&rt, alloc, RACE, words, b"pa never\npb never\npc never\n")?;
+    let words = &["eval", "f", "never", "never", "0"];
+    expect_values(&rt, alloc, RACE, words, b"pa never\npb never\npc 0\n")?;
+    let middle = b"racenet 1\ninput a b c\noutput m = max(min(a, b), min(max(a, b), c))\n";
+    let words = &["eval", "f", "7", "3", "5"];
+    expect_values(&rt, alloc, middle, words, b"m 5\n")
+}
+
+// Lets of which each takes the one before twice.
+fn doubling(alloc: Global, count: u64) -> Result<Vec<u8>, Fail> {
+    let mut number = Buffer::new();
+    let mut text = b"racenet 1\ninput a\nlet p0 = a\n".to_vec(alloc)?;
+    for k in 1..=count {
+        text.extend_from_slice(b"let p")?;
+        text.extend_from_slice(number.format(k).as_bytes())?;
+        text.extend_from_slice(b" = min(inc(p")?;
+        text.extend_from_slice(number.format(k - 1).as_bytes())?;
+        text.extend_from_slice(b", 1), p")?;
+        text.extend_from_slice(number.format(k - 1).as_bytes())?;
+        text.extend_from_slice(b")\n")?;
+    }
+    text.extend_from_slice(b"output y = p")?;
+    text.extend_from_slice(number.format(count).as_bytes())?;
+    text.extend_from_slice(b"\n")?;
+    Ok(text)
+}
+
+#[test]
+fn values_each_let_once(rt: HostRuntime) -> Result<(), Fail> {
+    let alloc = rt.alloc();
+    let words = &["eval", "f", "9"];
+    let twelve = doubling(alloc, 12)?;
+    expect_values(&rt, alloc, &twelve, words, b"y 9\n")?;
+    let many = doubling(alloc, 64)?;
+    expect_values(&rt, alloc, &many, words, b"y 9\n")
+}
+
+#[test]
+fn refuses_another_number_of_times(rt: HostRuntime) -> Result<(), Fail> {
+    let alloc = rt.alloc();
+    let words = &["eval", "f", "4"];
+    let fewer = (
+        Status::Refused,
+        b"".as_slice(),
+        b"racelog: E51 2\n".as_slice(),
+    );
+    expect(&rt, alloc, EARLIEST, words, &EASY, fewer)?;
+    let words = &["eval", "f", "4", "4", "4"];
+    expect(&rt, alloc, EARLIEST, words, &EASY, fewer)?;
+    let span = b"racenet 1\ninput a\noutput y = inc(a, 1000001)\n";
+    let late = (
+        Status::Refused,
+        b"".as_slice(),
+        b"racelog: E12 file 1 line 3\n".as_slice(),
+    );
+    expect(&rt, alloc, span, words, &EASY, late)
+}
+
 // The words are no command.
 fn expect_usage(rt: &impl Abort, alloc: Global, words: &[&str]) -> Result<(), Fail> {
     let want = (
@@ -187,7 +277,12 @@ fn refuses_words(rt: HostRuntime) -> Result<(), Fail> {
     expect_usage(&rt, alloc, &["compile", ""])?;
     expect_usage(&rt, alloc, &["compile", "-f"])?;
     expect_usage(&rt, alloc, &["compile", "f", "f"])?;
-    expect_usage(&rt, alloc, &["compile", long.as_str()])
+    expect_usage(&rt, alloc, &["compile", long.as_str()])?;
+    expect_usage(&rt, alloc, &["eval", "f"])?;
+    expect_usage(&rt, alloc, &["eval", "f", "04", "4"])?;
+    expect_usage(&rt, alloc, &["eval", "f", "1000000000001", "4"])?;
+    expect_usage(&rt, alloc, &["eval", "f", "Never", "4"])?;
+    expect_usage(&rt, alloc, &["eval", "-f", "4", "4"])
 }
 
 #[test]
