@@ -359,14 +359,15 @@ fn tells_faults_of_reading_and_writing(rt: HostRuntime) -> Result<(), Fail> {
 #[test]
 fn runs_over_the_system(rt: HostRuntime) -> Result<(), Fail> {
     let alloc = rt.alloc();
-    fs::write(&rt, "out/earliest.net", EARLIEST)?;
+    fs::write(&rt, "earliest.net", EARLIEST)?;
     let mut shelf = FileShelf::new(&rt);
     let mut out = StdSink::out(&rt);
     let mut err = StdSink::err(&rt);
-    let words = texts(alloc, &["compile", "out/earliest.net"])?;
+    let words = texts(alloc, &["compile", "earliest.net"])?;
     let status = run(alloc, &words, &mut shelf, &mut out, &mut err);
     assert_eq!(rt; status, Status::Done);
-    let words = texts(alloc, &["compile", "out/missing.net"])?;
+    fs::remove_file(&rt, "earliest.net")?;
+    let words = texts(alloc, &["compile", "missing.net"])?;
     let status = run(alloc, &words, &mut shelf, &mut out, &mut err);
     assert_eq!(rt; status, Status::ReadFault);
     assert_eq!(rt; status.code(), 4);
