@@ -100,6 +100,78 @@ fn constants(alloc: Global) -> Result<Module, NoMemory> {
     Ok(Module::new(inputs, outputs, wires, regs, assigns))
 }
 
+// One input, as many cycles later as a register may have bits.
+fn longest_delay(alloc: Global) -> Result<Module, NoMemory> {
+    let inputs = names(alloc, &["a"])?;
+    let outputs = names(alloc, &["y"])?;
+    let mut regs = Vec::new(alloc);
+    regs.push(Reg::new(Name::new(alloc, b"r0")?, 65536, Bit::Input(0)))?;
+    let mut assigns = Vec::new(alloc);
+    assigns.push(Assign::new(Target::Out(0), Bit::Reg(0, 65535)))?;
+    let wires = Vec::new(alloc);
+    Ok(Module::new(inputs, outputs, wires, regs, assigns))
+}
+
+// Every operator in `|`, on the left and on the right.
+fn nested_in_or(alloc: Global) -> Result<Module, NoMemory> {
+    let inputs = names(alloc, &["a", "b"])?;
+    let outputs = names(alloc, &["x", "y", "z"])?;
+    let either = or(alloc, Bit::Input(0), Bit::Input(1))?;
+    let both = and(alloc, Bit::Input(0), Bit::Input(1))?;
+    let first = or(alloc, either, both)?;
+    let either_again = or(alloc, Bit::Input(0), Bit::Input(1))?;
+    let both_again = and(alloc, Bit::Input(0), Bit::Input(1))?;
+    let second = or(alloc, both_again, either_again)?;
+    let low = not(alloc, Bit::Input(0))?;
+    let low_too = not(alloc, Bit::Input(1))?;
+    let third = or(alloc, low, low_too)?;
+    let mut assigns = Vec::new(alloc);
+    assigns.push(Assign::new(Target::Out(0), first))?;
+    assigns.push(Assign::new(Target::Out(1), second))?;
+    assigns.push(Assign::new(Target::Out(2), third))?;
+    let (wires, regs) = (Vec::new(alloc), Vec::new(alloc));
+    Ok(Module::new(inputs, outputs, wires, regs, assigns))
+}
+
+// Every operator in `&`, on the left and on the right.
+fn nested_in_and(alloc: Global) -> Result<Module, NoMemory> {
+    let inputs = names(alloc, &["a", "b"])?;
+    let outputs = names(alloc, &["x", "y", "z"])?;
+    let either = or(alloc, Bit::Input(0), Bit::Input(1))?;
+    let both = and(alloc, Bit::Input(0), Bit::Input(1))?;
+    let first = and(alloc, either, both)?;
+    let either_again = or(alloc, Bit::Input(0), Bit::Input(1))?;
+    let both_again = and(alloc, Bit::Input(0), Bit::Input(1))?;
+    let second = and(alloc, both_again, either_again)?;
+    let low = not(alloc, Bit::Input(0))?;
+    let low_too = not(alloc, Bit::Input(1))?;
+    let third = and(alloc, low, low_too)?;
+    let mut assigns = Vec::new(alloc);
+    assigns.push(Assign::new(Target::Out(0), first))?;
+    assigns.push(Assign::new(Target::Out(1), second))?;
+    assigns.push(Assign::new(Target::Out(2), third))?;
+    let (wires, regs) = (Vec::new(alloc), Vec::new(alloc));
+    Ok(Module::new(inputs, outputs, wires, regs, assigns))
+}
+
+// Every operator in `~`.
+fn nested_in_not(alloc: Global) -> Result<Module, NoMemory> {
+    let inputs = names(alloc, &["a", "b"])?;
+    let outputs = names(alloc, &["x", "y", "z"])?;
+    let either = or(alloc, Bit::Input(0), Bit::Input(1))?;
+    let first = not(alloc, either)?;
+    let both = and(alloc, Bit::Input(0), Bit::Input(1))?;
+    let second = not(alloc, both)?;
+    let low = not(alloc, Bit::Input(0))?;
+    let third = not(alloc, low)?;
+    let mut assigns = Vec::new(alloc);
+    assigns.push(Assign::new(Target::Out(0), first))?;
+    assigns.push(Assign::new(Target::Out(1), second))?;
+    assigns.push(Assign::new(Target::Out(2), third))?;
+    let (wires, regs) = (Vec::new(alloc), Vec::new(alloc));
+    Ok(Module::new(inputs, outputs, wires, regs, assigns))
+}
+
 const FIRST_OF_TWO: &str = "\
 module race(clk, rst, in_a, in_b, out_y);
   input clk;
@@ -164,6 +236,63 @@ module race(clk, rst, in_a, out_y, out_z);
 endmodule
 ";
 
+const NESTED_IN_OR: &str = "\
+module race(clk, rst, in_a, in_b, out_x, out_y, out_z);
+  input clk;
+  input rst;
+  input in_a;
+  input in_b;
+  output out_x;
+  output out_y;
+  output out_z;
+  assign out_x = (in_a | in_b) | (in_a & in_b);
+  assign out_y = (in_a & in_b) | (in_a | in_b);
+  assign out_z = ~in_a | ~in_b;
+endmodule
+";
+
+const NESTED_IN_AND: &str = "\
+module race(clk, rst, in_a, in_b, out_x, out_y, out_z);
+  input clk;
+  input rst;
+  input in_a;
+  input in_b;
+  output out_x;
+  output out_y;
+  output out_z;
+  assign out_x = (in_a | in_b) & (in_a & in_b);
+  assign out_y = (in_a & in_b) & (in_a | in_b);
+  assign out_z = ~in_a & ~in_b;
+endmodule
+";
+
+const NESTED_IN_NOT: &str = "\
+module race(clk, rst, in_a, in_b, out_x, out_y, out_z);
+  input clk;
+  input rst;
+  input in_a;
+  input in_b;
+  output out_x;
+  output out_y;
+  output out_z;
+  assign out_x = ~(in_a | in_b);
+  assign out_y = ~(in_a & in_b);
+  assign out_z = ~~in_a;
+endmodule
+";
+
+const LONGEST_DELAY: &str = "\
+module race(clk, rst, in_a, out_y);
+  input clk;
+  input rst;
+  input in_a;
+  output out_y;
+  reg [65535:0] r0;
+  assign out_y = r0[65535];
+  always @(posedge clk) if (rst) r0 <= 65536'b0; else r0 <= {r0[65534:0], in_a};
+endmodule
+";
+
 #[test]
 fn modules_are_printed(rt: HostRuntime) -> Result<(), Fail> {
     let alloc = rt.alloc();
@@ -173,6 +302,10 @@ fn modules_are_printed(rt: HostRuntime) -> Result<(), Fail> {
         (latch(alloc)?, LATCH),
         (delays(alloc)?, DELAYS),
         (constants(alloc)?, CONSTANTS),
+        (longest_delay(alloc)?, LONGEST_DELAY),
+        (nested_in_or(alloc)?, NESTED_IN_OR),
+        (nested_in_and(alloc)?, NESTED_IN_AND),
+        (nested_in_not(alloc)?, NESTED_IN_NOT),
     ];
     for (module, text) in &cases {
         let printed = print_module(alloc, module)?;
