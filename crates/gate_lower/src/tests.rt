@@ -1,7 +1,7 @@
 ghost use Rattle.std.specs.Prelude.{◌≤◌, length};
 
 use crate::emitting::emit;
-use crate::lower::lower_written;
+use crate::lower::{LowerError, lower_written};
 use net_lang::read_network;
 use std::alloc::Global;
 use std::process::Abort;
@@ -86,4 +86,17 @@ fn delays_are_chains_of_registers(rt: HostRuntime) -> Result<(), Fail> {
 endmodule
 ";
     expect(&rt, rt.alloc(), text, 1, 1, module)
+}
+
+#[test]
+fn a_module_has_up_to_65536_register_bits(rt: HostRuntime) -> Result<(), Fail> {
+    let alloc = rt.alloc();
+    let most = read_network(alloc, b"racenet 1\ninput a\noutput y = inc(a, 65536)\n")?;
+    let netlist = lower_written(alloc, &most)?;
+    assert_eq!(rt; netlist.delays().len(), 1);
+    assert_eq!(rt; emit(alloc, &netlist)?.regs().len(), 65536);
+    let more = read_network(alloc, b"racenet 1\ninput a\noutput y = inc(a, 65537)\n")?;
+    let error = lower_written(alloc, &more).err();
+    assert_eq!(rt; error, Some(LowerError::TooManyBits(65537)));
+    Ok(())
 }
