@@ -1,24 +1,17 @@
 -- Texts that fall into pieces, taken a piece at a time.
-use Rattle.std.proofs.Common.{◌≡◌, ◌≢◌, ℕ, ◌+◌, Bool, true, cond, inl, inr, List, [], ◌∷◌, ◌++◌, length, take, drop, Option, Some, None, refl, sym, ap, subst, ◌∙◌, arith, eqb}
-use Rattle.std.specs.Prelude.{codes, count_by}
-use Rattle.std.specs.List.{list_all, list_any, AllByRecursion}
-use Rattle.std.specs.Str.{bytes_eq}
+use Rattle.std.proofs.Common.{◌≡◌, ◌≢◌, ℕ, ◌+◌, cond, List, [], ◌∷◌, ◌++◌, length, take, drop, Option, Some, None, refl, sym, ap, subst, ◌∙◌, arith}
+use Rattle.std.specs.Prelude.{count_by}
 use Rattle.std.proofs.lemmas.List.{append-nil, append_assoc, append_cancel_left, length-append, take_at, take-append-drop, length-take-le}
 use Rattle.std.proofs.lemmas.List.Concat.{flat_map-append}
-use Rattle.std.proofs.lemmas.List.Sums.{sum_by-cons, sum_by-append}
-use Rattle.std.proofs.lemmas.Bool.{and_parts, and_from, or_cases, eqb-true, not-true}
-use Rattle.std.proofs.lemmas.Bool.Decides.{nat_tests}
-use Rattle.std.proofs.lemmas.Slice.Eq.{bytes_eq-Decides}
+use Rattle.std.proofs.lemmas.List.Sums.{sum_by-append}
 use Rattle.rl_text.specs.declared.token.Kind.{Kind}
 use Rattle.rl_text.specs.declared.token.Kind.TheVariants as kind
 use Rattle.rl_text.specs.declared.token.Style.{Style}
-use Rattle.rl_text.specs.declared.token.Style.TheVariants as style
-use Rattle.rl_text.specs.Names.{is_digit, is_name_start, is_name_byte, is_name}
 use Rattle.rl_text.specs.declared.token.Token.{Token}
-use Rattle.rl_text.specs.Pieces.{is_blank, is_newline, is_comment_byte, is_gap, is_number, symbols, is_piece, Piece, Begins, IsLongest, joined, AreLongest}
+use Rattle.rl_text.specs.Pieces.{is_newline, Piece, Begins, IsLongest, joined, AreLongest}
 use Rattle.rl_text.specs.Tokens.{line_behind, token, with_token, tokens_of, AreTokens, IsBad}
-use Rattle.rl_text.specs.Front.{front, newlines}
-use Rattle.rl_text.proofs.Fronts.{front_is_longest, longest_is_front, nothing_stands, same_kind, same_len, front_stands, front_at_end, one_of}
+use Rattle.rl_text.specs.Front.{front}
+use Rattle.rl_text.proofs.Fronts.{front_is_longest, longest_is_front, nothing_stands, same_kind, same_len, front_stands, front_at_end}
 
 -- ---- at most one way
 
@@ -131,65 +124,6 @@ tokens_end before (q ∷ ps) =
 lines_more : (before bytes : List ℕ) → line_behind (before ++ bytes) ≡ line_behind before + count_by is_newline bytes
 lines_more before bytes = let e = sum_by-append (λ (b : ℕ). cond (is_newline b) 1 0) before bytes in omega (arith, e)
 
--- ---- the newlines of a piece
-
-no_newline : (bytes : List ℕ) → list_all is_comment_byte bytes ≡ true → count_by is_newline bytes ≡ 0
-no_newline [] h = refl
-no_newline (b ∷ bytes) h =
-    let a = and_parts (is_comment_byte b) (list_all is_comment_byte bytes) h in
-    sum_by-cons (λ (c : ℕ). cond (is_newline c) 1 0) b bytes ∙ rw (not-true (is_newline b) a.0) (omega (arith, no_newline bytes a.1))
-
-list_all_weaker : (p q : ℕ → Bool) → ((b : ℕ) → p b ≡ true → q b ≡ true) → (bytes : List ℕ) → list_all p bytes ≡ true → list_all q bytes ≡ true
-list_all_weaker p q w [] h = refl
-list_all_weaker p q w (b ∷ bytes) h =
-    let a = and_parts (p b) (list_all p bytes) h in
-    and_from (q b) (list_all q bytes) (w b a.0) (list_all_weaker p q w bytes a.1)
-
-name_byte_stays : (b : ℕ) → is_name_byte b ≡ true → is_comment_byte b ≡ true
-name_byte_stays b h = grind (arith, nat_tests)
-
-name_start_stays : (b : ℕ) → is_name_start b ≡ true → is_comment_byte b ≡ true
-name_start_stays b h = grind (arith, nat_tests)
-
-digit_stays : (b : ℕ) → is_digit b ≡ true → is_comment_byte b ≡ true
-digit_stays b h = grind (arith, nat_tests)
-
-blank_stays : (b : ℕ) → is_blank b ≡ true → is_comment_byte b ≡ true
-blank_stays b h = grind (arith, nat_tests)
-
-hash_stays : (b : ℕ) → eqb b 35 ≡ true → is_comment_byte b ≡ true
-hash_stays b h = rw (eqb-true b 35 h) refl
-
-name_stays : (bytes : List ℕ) → is_name bytes ≡ true → list_all is_comment_byte bytes ≡ true
-name_stays [] h = refl
-name_stays (b ∷ bytes) h =
-    let a = and_parts (is_name_start b) (list_all is_name_byte bytes) h in
-    and_from (is_comment_byte b) _ (name_start_stays b a.0) (list_all_weaker is_name_byte is_comment_byte name_byte_stays bytes a.1)
-
-number_stays : (bytes : List ℕ) → is_number bytes ≡ true → list_all is_comment_byte bytes ≡ true
-number_stays [] h = refl
-number_stays (b ∷ bytes) h = list_all_weaker is_digit is_comment_byte digit_stays (b ∷ bytes) h
-
-gap_stays : (bytes : List ℕ) → is_gap bytes ≡ true → list_all is_comment_byte bytes ≡ true
-gap_stays [] h = refl
-gap_stays (b ∷ []) h = elim (or_cases (is_blank b) (eqb b 35) h) [ inl g ↦ and_from (is_comment_byte b) true (blank_stays b g) refl | inr g ↦ and_from (is_comment_byte b) true (hash_stays b g) refl ]
-gap_stays (b ∷ c ∷ bytes) h =
-    let a = and_parts (eqb b 35) (list_all is_comment_byte (c ∷ bytes)) h in
-    and_from (is_comment_byte b) (list_all is_comment_byte (c ∷ bytes)) (hash_stays b a.0) a.1
-
-any_stays : (bytes : List ℕ) (texts : List (List ℕ)) → AllByRecursion (λ text. list_all is_comment_byte text ≡ true) texts → list_any (bytes_eq bytes) texts ≡ true → list_all is_comment_byte bytes ≡ true
-any_stays bytes [] each h = absurd cc
-any_stays bytes (first ∷ others) each h =
-    elim (one_of bytes first others h) [ inl e ↦ rw e each.0 | inr g ↦ any_stays bytes others each.1 g ]
-
-pub piece_newlines : (s : Style) (k : Option Kind) (bytes : List ℕ) → is_piece s k bytes ≡ true → count_by is_newline bytes ≡ newlines k
-piece_newlines style.Race None bytes h = no_newline bytes (gap_stays bytes h)
-piece_newlines style.Race (Some kind.Name) bytes h = no_newline bytes (name_stays bytes h)
-piece_newlines style.Race (Some kind.Number) bytes h = no_newline bytes (number_stays bytes h)
-piece_newlines style.Race (Some kind.Symbol) bytes h = no_newline bytes (any_stays bytes symbols (refl, (refl, (refl, (refl, (refl, (refl, (refl, tt))))))) h)
-piece_newlines style.Race (Some kind.EndLine) bytes h = ap (count_by is_newline) ((bytes_eq-Decides bytes (codes "\n")).0 h)
-piece_newlines style.Race (Some kind.End) bytes h = absurd cc
-
 -- ---- a turn of the loop
 
 -- the token of what is found at a place, where it is no gap
@@ -202,7 +136,7 @@ token_is None before bytes at n line a b l = refl
 token_is (Some k) before bytes at n line a b l = rw (a, b, l) refl
 
 pub turn : (s : Style) (text rest : List ℕ) (at line : ℕ) (tokens : List Token) (k : Option Kind) (n : ℕ) → IsRead s text rest at line tokens → front s rest ≡ Some (k, n)
-    → IsRead s text (drop n rest) (at + n) (line + newlines k) (tokens ++ token_at k at (at + n) line)
+    → IsRead s text (drop n rest) (at + n) (line + count_by is_newline (take n rest)) (tokens ++ token_at k at (at + n) line)
 turn s text rest at line tokens k n r e =
     let p : Piece = record { kind = k; bytes = take n rest } in
     let h = front_stands s k n rest e in
@@ -216,25 +150,25 @@ turn s text rest at line tokens k n r e =
       split = rw j (r.split ∙ ap (λ (b : List ℕ). joined r.pieces ++ b) (sym cut) ∙ sym (append_assoc (joined r.pieces) (take n rest) (drop n rest)));
       longest = longest_more s r.pieces p (drop n rest) (subst (AreLongest s r.pieces) (sym cut) r.longest) (subst (IsLongest s p) (sym cut) l);
       place = rw j (let a = length-append (joined r.pieces) (take n rest) in omega (arith, a, len, r.place));
-      number = rw j (let a = lines_more (joined r.pieces) (take n rest) in let b = piece_newlines s k (take n rest) h.piece in omega (arith, a, b, r.number));
+      number = rw j (let a = lines_more (joined r.pieces) (take n rest) in omega (arith, a, r.number));
       listed = ap (λ (ts : List Token). ts ++ token_at k at (at + n) line) r.listed ∙ ap (λ (ts : List Token). tokens_before [] r.pieces ++ ts) (sym t) ∙ sym (tokens_more [] r.pieces p);
     }
 
 -- the same, of what a loop has behind a token
-pub turn_token : (s : Style) (text rest after : List ℕ) (at line behind : ℕ) (tokens more : List Token) (found : Option Kind) (k : Kind) (n : ℕ) → IsRead s text rest at line tokens → front s rest ≡ Some (found, n)
-    → found ≡ Some k → after ≡ drop n rest → behind ≡ line + newlines (Some k) → more ≡ tokens ++ token_at (Some k) at (at + n) line → IsRead s text after (at + n) behind more
-turn_token s text rest after at line behind tokens more found k n r e f a b m =
+pub turn_token : (s : Style) (text rest piece after : List ℕ) (at line behind : ℕ) (tokens more : List Token) (found : Option Kind) (k : Kind) (n : ℕ) → IsRead s text rest at line tokens → front s rest ≡ Some (found, n)
+    → found ≡ Some k → piece ≡ take n rest → after ≡ drop n rest → behind ≡ line + count_by is_newline piece → more ≡ tokens ++ token_at (Some k) at (at + n) line → IsRead s text after (at + n) behind more
+turn_token s text rest piece after at line behind tokens more found k n r e f p a b m =
     let g : front s rest ≡ Some (Some k, n) = subst (λ (j : Option Kind). front s rest ≡ Some (j, n)) f e in
-    rw (a, b, m) (turn s text rest at line tokens (Some k) n r g)
+    rw (a, b, p, m) (turn s text rest at line tokens (Some k) n r g)
 
 -- and behind a gap
-pub turn_gap : (s : Style) (text rest after : List ℕ) (at line behind : ℕ) (tokens more : List Token) (found : Option Kind) (n : ℕ) → IsRead s text rest at line tokens → front s rest ≡ Some (found, n)
-    → found ≡ None → after ≡ drop n rest → behind ≡ line → more ≡ tokens → IsRead s text after (at + n) behind more
-turn_gap s text rest after at line behind tokens more found n r e f a b m =
+pub turn_gap : (s : Style) (text rest piece after : List ℕ) (at line behind : ℕ) (tokens more : List Token) (found : Option Kind) (n : ℕ) → IsRead s text rest at line tokens → front s rest ≡ Some (found, n)
+    → found ≡ None → piece ≡ take n rest → after ≡ drop n rest → behind ≡ line + count_by is_newline piece → more ≡ tokens → IsRead s text after (at + n) behind more
+turn_gap s text rest piece after at line behind tokens more found n r e f p a b m =
     let g : front s rest ≡ Some (None, n) = subst (λ (k : Option Kind). front s rest ≡ Some (k, n)) f e in
+    let line_after = line + count_by is_newline (take n rest) in
     let t = turn s text rest at line tokens None n r g in
-    let z : line + 0 ≡ line = omega arith in
-    rw (a, b, m) (subst (λ (l : ℕ). IsRead s text (drop n rest) (at + n) l tokens) z (subst (λ (ts : List Token). IsRead s text (drop n rest) (at + n) (line + 0) ts) (append-nil tokens) t))
+    rw (a, b, p, m) (subst (λ (ts : List Token). IsRead s text (drop n rest) (at + n) line_after ts) (append-nil tokens) t)
 
 pub ends : (s : Style) (text rest : List ℕ) (at line : ℕ) (tokens : List Token) → IsRead s text rest at line tokens → rest ≡ [] → AreTokens s text (tokens ++ token_at (Some kind.End) at at line)
 ends s text rest at line tokens r e =

@@ -1,3 +1,6 @@
+pub mod Runs
+pub mod RaceFront
+pub mod VerilogFront
 pub mod Fronts
 pub mod Cuts
 pub mod Spans

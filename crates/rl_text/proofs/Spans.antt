@@ -27,9 +27,16 @@ slice_is before bytes rest =
 token_fits : (s : Style) (k : Kind) (bytes : List ℕ) → is_token s k bytes ≡ true → fits s k bytes ≡ true
 token_fits style.Race kind.Name bytes h = h
 token_fits style.Race kind.Number bytes h = h
+token_fits style.Race kind.Bits bytes h = h
 token_fits style.Race kind.Symbol bytes h = h
 token_fits style.Race kind.EndLine bytes h = h
 token_fits style.Race kind.End bytes h = absurd cc
+token_fits style.Verilog kind.Name bytes h = h
+token_fits style.Verilog kind.Number bytes h = h
+token_fits style.Verilog kind.Bits bytes h = h
+token_fits style.Verilog kind.Symbol bytes h = h
+token_fits style.Verilog kind.EndLine bytes h = h
+token_fits style.Verilog kind.End bytes h = absurd cc
 
 token_span : (s : Style) (k : Kind) (text before bytes rest : List ℕ) (low : ℕ) → text ≡ before ++ (bytes ++ rest) → low ≤ length before → fits s k bytes ≡ true → IsSpan s text low (token k before bytes)
 token_span s k text before bytes rest low e h f =
@@ -78,9 +85,16 @@ orders s text before (p ∷ ps) e l =
 no_end : (s : Style) (k : Kind) (bytes : List ℕ) → is_token s k bytes ≡ true → k ≢ kind.End
 no_end style.Race kind.Name bytes h e = cc
 no_end style.Race kind.Number bytes h e = cc
+no_end style.Race kind.Bits bytes h e = cc
 no_end style.Race kind.Symbol bytes h e = cc
 no_end style.Race kind.EndLine bytes h e = cc
 no_end style.Race kind.End bytes h e = cc
+no_end style.Verilog kind.Name bytes h e = cc
+no_end style.Verilog kind.Number bytes h e = cc
+no_end style.Verilog kind.Bits bytes h e = cc
+no_end style.Verilog kind.Symbol bytes h e = cc
+no_end style.Verilog kind.EndLine bytes h e = cc
+no_end style.Verilog kind.End bytes h e = cc
 
 with_end : (s : Style) (k : Option Kind) (text before bytes : List ℕ) (ts : List Token) → is_piece s k bytes ≡ true → EndIsLast text ts → EndIsLast text (with_token k before bytes ts)
 with_end s None text before bytes ts f e = e

@@ -1,20 +1,14 @@
-ghost use Rattle.std.specs.Prelude.{◌≡◌, ◌≤◌, ◌^◌, length, take, map, count_by, All, IfOk, slice_range};
-ghost use Rattle.rl_text.specs.Pieces.{is_newline};
+ghost use Rattle.std.specs.Prelude.{◌≡◌, ◌≤◌, length, take, map, All, IfOk, slice_range};
 ghost use Rattle.rl_text.specs.Tokens.{line_behind};
 ghost use Rattle.rl_text.specs.Lines.{ends_line, lines};
-ghost use Rattle.rl_text.specs.Words.{line};
+ghost use Rattle.rl_text.specs.Lexemes.{is_end, lexemes};
+ghost use Rattle.rl_text.specs.Words.{line, lexeme};
 
+use crate::bytes::newlines;
 use crate::token::{Kind, Token};
-use crate::words::{Line, Word};
+use crate::words::{Lexeme, Line, Word};
 use rl_time::NoMemory;
 use std::alloc::Global;
-
-fn newlines(bytes: &[u8]) -> usize
-    ensures count { result ≡ count_by is_newline bytes.now }
-    ensures within { result ≤ length bytes.now }
-{
-    bytes.iter().filter(|b| **b == b'\n').count()
-}
 
 /// The line of a place of a text, in bytes from 0.
 pub fn line_at(text: &[u8], place: u32) -> u32
@@ -29,6 +23,12 @@ fn ends_line(kind: Kind) -> bool
     ensures { result ≡ ends_line kind }
 {
     matches!(kind, Kind::EndLine | Kind::End)
+}
+
+fn is_end(kind: Kind) -> bool
+    ensures { result ≡ is_end kind }
+{
+    matches!(kind, Kind::End)
 }
 
 fn bytes_of<'a>(text: &'a [u8], token: &Token) -> &'a [u8]
@@ -65,6 +65,29 @@ pub fn lines<'a>(alloc: Global, text: &'a [u8], tokens: &[Token]) -> Result<Vec<
     }
     if !words.is_empty() {
         all.push(Line { number, words })?;
+    }
+    Ok(all)
+}
+
+/// The tokens of a text with their bytes at hand, in order, without `End`.
+pub fn lexemes<'a>(
+    alloc: Global,
+    text: &'a [u8],
+    tokens: &[Token],
+) -> Result<Vec<Lexeme<'a>>, NoMemory>
+    requires { All (λ t. (t.start ≤ t.end) × (t.end ≤ length text.now)) tokens.now }
+    ensures { IfOk result (λ all. map lexeme all.items ≡ lexemes text.now tokens.now) }
+{
+    let mut all = Vec::new(alloc);
+    for token in tokens {
+        if !is_end(token.kind) {
+            let bytes = bytes_of(text, token);
+            all.push(Lexeme {
+                kind: token.kind,
+                bytes,
+                line: token.line,
+            })?;
+        }
     }
     Ok(all)
 }

@@ -1,8 +1,16 @@
 //! Laws of texts and their tokens.
-ghost use Rattle.std.specs.Prelude.{◌≡◌, ℕ, List};
+ghost use Rattle.std.specs.Prelude.{◌≡◌, ℕ, List, take, Option, Some};
+ghost use Rattle.rl_text.specs.declared.token.Kind.{Kind};
 ghost use Rattle.rl_text.specs.declared.token.Style.{Style};
 ghost use Rattle.rl_text.specs.declared.token.Token.{Token};
+ghost use Rattle.rl_text.specs.Pieces.{IsLongest};
 ghost use Rattle.rl_text.specs.Tokens.{AreTokens, IsBad};
+ghost use Rattle.rl_text.specs.Front.{front};
+
+/// The piece that is computed at the front of a text is the longest that the text can begin with.
+pub fn front_is_longest()
+    ensures { (s : Style) (k : Option Kind) (n : ℕ) (text : List ℕ) → front s text ≡ Some (k, n) → IsLongest s (record { kind = k; bytes = take n text }) text }
+{}
 
 /// A text has at most one list of tokens.
 pub fn one_list_of_tokens()

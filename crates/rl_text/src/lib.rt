@@ -1,20 +1,23 @@
 //! Names and tokens, as the files of racelog write them.
 #![tactic(auto)]
 
+mod bytes;
 mod cut;
 mod front;
 mod laws;
 mod lexer;
 mod name;
+mod race;
 mod token;
+mod verilog;
 mod words;
 
-pub use cut::{line_at, lines};
-pub use laws::{one_bad_place, one_list_of_tokens, tokens_or_bad_place};
+pub use cut::{lexemes, line_at, lines};
+pub use laws::{front_is_longest, one_bad_place, one_list_of_tokens, tokens_or_bad_place};
 pub use lexer::lex;
-pub use name::Name;
+pub use name::{Name, is_name};
 pub use token::{Kind, LexError, Style, Token};
-pub use words::{Line, Word};
+pub use words::{Lexeme, Line, Word};
 
 #[cfg(test)]
 mod tests;

@@ -1,8 +1,27 @@
 ghost use Rattle.std.specs.Prelude.{◌≡◌, List, ℕ, IfOk};
+ghost use Rattle.std.specs.List.{list_all};
+ghost use Rattle.rl_text.specs.Names.{is_name_byte, is_name};
 
+use crate::bytes::{is_name_byte, is_name_start};
 use rl_time::NoMemory;
 use std::alloc::Global;
 use std::marker::Model;
+
+fn are_name_bytes(bytes: &[u8]) -> bool
+    ensures { result ≡ list_all is_name_byte bytes.now }
+{
+    bytes.iter().all(|b| is_name_byte(*b))
+}
+
+/// Whether these bytes are a letter or `_`, and then letters, digits and `_`.
+pub fn is_name(bytes: &[u8]) -> bool
+    ensures { result ≡ is_name bytes.now }
+{
+    match bytes {
+        [] => false,
+        [first, rest @ ..] => is_name_start(*first) && are_name_bytes(rest),
+    }
+}
 
 /// A name, seen as the list of its bytes.
 #[derive(Debug, Drop)]

@@ -3,17 +3,20 @@ ghost use Rattle.rl_text.specs.declared.token.LexError.TheVariants.{NoMemory};
 
 use std::alloc::{AllocError, AllocFailed};
 
-/// Which rules a text's tokens follow. `Race` is that of networks, tables and trees.
+/// Which rules a text's tokens follow. `Race` is that of networks, tables and trees, and `Verilog` that of modules.
 #[derive(Clone, Copy, Debug, PartialEq, Eq)]
 pub enum Style {
     Race,
+    Verilog,
 }
 
-/// What a token is. `EndLine` is a newline, and `End` stands once, at the end of the text.
+/// What a token is. `Bits` is of style Verilog alone, as `12'b0`. `EndLine` is a newline, in style Race alone. `End`
+/// stands once, at the end of the text.
 #[derive(Clone, Copy, Debug, PartialEq, Eq)]
 pub enum Kind {
     Name,
     Number,
+    Bits,
     Symbol,
     EndLine,
     End,

@@ -1,35 +1,9 @@
 //! The names that a line may declare.
 ghost use Rattle.std.specs.Prelude.{◌≡◌};
 ghost use Rattle.std.specs.List.{list_all};
-ghost use Rattle.rl_text.specs.Names.{is_name_start, is_name_byte, is_name};
 ghost use Rattle.net_lang.specs.Rules.{is_reserved, is_let_name, is_port_name, begins_with_underscore};
 
-fn is_name_start(b: u8) -> bool
-    ensures { result ≡ is_name_start b }
-{
-    matches!(b, b'A'..=b'Z' | b'a'..=b'z' | b'_')
-}
-
-fn is_name_byte(b: u8) -> bool
-    ensures { result ≡ is_name_byte b }
-{
-    matches!(b, b'A'..=b'Z' | b'a'..=b'z' | b'0'..=b'9' | b'_')
-}
-
-fn are_name_bytes(bytes: &[u8]) -> bool
-    ensures { result ≡ list_all is_name_byte bytes.now }
-{
-    bytes.iter().all(|b| is_name_byte(*b))
-}
-
-fn is_name(name: &[u8]) -> bool
-    ensures { result ≡ is_name name.now }
-{
-    match name {
-        [] => false,
-        [first, rest @ ..] => is_name_start(*first) && are_name_bytes(rest),
-    }
-}
+use rl_text::is_name;
 
 fn is_reserved(name: &[u8]) -> bool
     ensures { result ≡ is_reserved name.now }
