@@ -1,0 +1,3 @@
+pub mod Edges
+pub mod Passes
+pub mod Histories

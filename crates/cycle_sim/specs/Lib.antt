@@ -1,0 +1,4 @@
+pub mod Standing
+pub mod Levels
+pub mod Ready
+pub mod Code

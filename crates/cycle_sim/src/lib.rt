@@ -1,0 +1,12 @@
+//! A cycle simulator of modules: the levels of a module, one clock cycle after another.
+#![tactic(auto)]
+
+pub mod laws;
+mod levels;
+mod row;
+mod sim;
+
+pub use sim::Sim;
+
+#[cfg(test)]
+mod tests;
