@@ -1,0 +1,26 @@
+use Rattle.std.proofs.Common.{◌≡◌, ◌++◌, ◌∷◌, [], ◌∙◌, arith}
+use Rattle.std.proofs.lemmas.Grind.{common_steps}
+use Rattle.net_lang.specs.View.{formula}
+use Rattle.term_store.proofs.Runs.{run_let, ready_let, room_for_body, room_body}
+use Rattle.term_store.proofs.build.put_lets.Goals as goal
+
+pub put-place-requires-clause-ready : goal.put-place-requires-clause-ready
+put-place-requires-clause-ready c =
+    ready_let _ _ c.args.bindings.now c.loop-binding.binding-index _ c.binding-item.result _ c.loop-binding-test.true c.binding-item.is c.body.ensures (c.deref.ensures.len ∙ c.loop-binding.invariant.len) c.loop-binding.invariant.planted.grown c.requires.ready
+
+pub put-place-requires-clause-room : goal.put-place-requires-clause-room
+put-place-requires-clause-room c =
+    room_for_body _ _ c.args.bindings.now c.loop-binding.binding-index c.binding-item.result (formula c.body.result.now) c.loop-binding-test.true c.binding-item.is c.body.ensures c.requires.room c.loop-binding.invariant.room
+
+pub loop-binding-preserved : goal.loop-binding-preserved
+loop-binding-preserved c =
+    let i = c.loop-binding.binding-index in
+    let bs = c.args.bindings.now in
+    let d = c.binding-item.result in
+    let f : c.push.new.self.items ≡ c.loop-binding.lets.items ++ c.put-place.result ∷ [] = grind (arith, common_steps) in
+    record {
+      planted = run_let _ _ _ bs i d (formula c.body.result.now) _ _ _ c.put-place.result c.loop-binding-test.true c.binding-item.is c.body.ensures c.deref.ensures.value f c.loop-binding.invariant.planted c.put-place.ensures.planted;
+      len = grind (arith, common_steps);
+      capacity = omega (arith, c.loop-binding.invariant.capacity, c.push.ensures.capacity);
+      room = room_body _ _ _ bs i d (formula c.body.result.now) c.loop-binding-test.true c.binding-item.is c.body.ensures c.loop-binding.invariant.room c.put-place.ensures.room;
+    }

@@ -1,0 +1,18 @@
+use Rattle.std.proofs.Common.{◌≡◌, ◌-◌, subst, arith}
+use Rattle.std.proofs.lemmas.Grind.{common_steps}
+use Rattle.term_store.proofs.Marks.{root_more, operands_more, marks_are, AreMarks, marked}
+use Rattle.term_store.proofs.reach.reached.Goals as goal
+
+pub loop-root-preserved : goal.loop-root-preserved
+loop-root-preserved c =
+    root_more _ _ _ c.loop-root.root-index _ c.loop-root-test.true (c.requires.roots _ _ c.loop-root-test.true) c.loop-root.invariant
+
+pub loop-at-preserved-then-index : goal.loop-at-preserved-then-index
+loop-at-preserved-then-index c =
+    let m : marked c.loop-at.marks.items (c.loop-at.at - 1) = grind (arith, common_steps) in
+    operands_more _ _ c.loop-at.at c.loop-at.marks.items _ c.node.result c.rules.ensures.rules (omega arith) (omega (arith, c.len-len.ensures.len)) c.loop-at.invariant m c.node.ensures.at
+    c.mark_operands.ensures.len c.mark_operands.ensures.marks
+
+pub returns-clause-marks : goal.returns-clause-marks
+returns-clause-marks c =
+    marks_are _ _ _ c.rules.ensures.rules c.requires.roots (let e : c.loop-at.at ≡ 0 = omega arith in subst (λ k. AreMarks c.args.store.now.nodes c.args.roots.now k c.loop-at.marks.items) e c.loop-at.invariant)

@@ -1,0 +1,10 @@
+pub mod Tree
+pub mod Terms
+pub mod Subterms
+pub mod Nodes
+pub mod Trees
+pub mod Planting
+pub mod Reach
+pub mod Laws
+pub mod Places
+pub mod Ports

@@ -1,0 +1,21 @@
+//! A store of shared terms: each distinct node once, in the order of the first insertion.
+#![tactic(auto)]
+
+mod build;
+mod laws;
+mod node;
+mod place_laws;
+mod reach;
+mod store;
+#[cfg(test)]
+mod tests;
+
+pub use laws::{
+    network_terms_are_few, no_two_places_alike, reached_places, terms_have_the_networks_values,
+};
+pub use node::{Node, StoreError, Term};
+pub use place_laws::{
+    networks_have_ports, places_count_subterms, reached_places_are_closed, terms_follow_nodes,
+};
+pub use reach::reached;
+pub use store::Store;

@@ -1,0 +1,80 @@
+use crate::node::{Node, StoreError, Term};
+use crate::reach::reached;
+use crate::store::Store;
+use net_lang::{Network, read_network};
+use std::alloc::Global;
+use std::process::Abort;
+use std::test::Fail;
+
+// A network of lets p0 = min(inc(a, 1), a), p1 = min(inc(p0, 1), p0) and so on, and the last as output.
+fn chain(rt: &impl Abort, alloc: Global, lets: u32) -> Result<Network, Fail> {
+    let mut text = Vec::new(alloc);
+    text.extend_from_slice(b"racenet 1\ninput a\nlet p0 = min(inc(a, 1), a)\n")?;
+    let mut last = 0u32;
+    for next in 1..lets {
+        let line = format!(in alloc; "let p{next} = min(inc(p{last}, 1), p{last})\n")?;
+        text.extend_from_slice(line.as_bytes())?;
+        last = next;
+    }
+    let line = format!(in alloc; "output y = p{last}\n")?;
+    text.extend_from_slice(line.as_bytes())?;
+    assert!(rt; text.len() <= 1048576);
+    Ok(read_network(alloc, &text)?)
+}
+
+#[test]
+fn a_held_node_has_its_place(rt: HostRuntime) -> Result<(), Fail> {
+    let mut store = Store::new(rt.alloc())?;
+    let a = store.intern(Node::Input(0))?;
+    let b = store.intern(Node::Input(1))?;
+    assert!(rt; a.0 < store.len());
+    let min = store.intern(Node::Min(a, b))?;
+    assert!(rt; a.0 < store.len());
+    assert!(rt; b.0 < store.len());
+    let again = store.intern(Node::Min(a, b))?;
+    assert_eq!(rt; (a, b, min, again), (Term(0), Term(1), Term(2), Term(2)));
+    assert_eq!(rt; store.len(), 3);
+    Ok(())
+}
+
+#[test]
+fn a_full_store_answers_for_what_it_holds(rt: HostRuntime) -> Result<(), Fail> {
+    let mut store = Store::new(rt.alloc())?;
+    let a = store.intern(Node::Input(0))?;
+    for cycles in 1..262144 {
+        assert!(rt; a.0 < store.len());
+        let place = store.intern(Node::Inc(a, cycles))?;
+        assert_eq!(rt; place, Term(cycles));
+    }
+    assert!(rt; a.0 < store.len());
+    assert_eq!(rt; store.intern(Node::Inc(a, 262144)), Err(StoreError::Full));
+    assert!(rt; a.0 < store.len());
+    assert_eq!(rt; store.intern(Node::Inc(a, 1)), Ok(Term(1)));
+    Ok(())
+}
+
+#[test]
+fn shared_lets_are_planted_once(rt: HostRuntime) -> Result<(), Fail> {
+    for (lets, nodes) in [(12, 25), (64, 129)] {
+        let n = chain(&rt, rt.alloc(), lets)?;
+        let mut store = Store::new(rt.alloc())?;
+        let places = store.build(rt.alloc(), &n)?;
+        assert_eq!(rt; store.len(), nodes);
+        assert_eq!(rt; places.as_slice(), [Term(nodes - 1)].as_slice());
+    }
+    Ok(())
+}
+
+#[test]
+fn outputs_share_their_terms(rt: HostRuntime) -> Result<(), Fail> {
+    let text =
+        b"racenet 1\ninput a b c\noutput y = min(a, b)\noutput z = inc(min(a, b), 0)\noutput w = b\n";
+    let n = read_network(rt.alloc(), text)?;
+    let mut store = Store::new(rt.alloc())?;
+    let places = store.build(rt.alloc(), &n)?;
+    assert_eq!(rt; store.len(), 4);
+    assert_eq!(rt; places.as_slice(), [Term(3), Term(3), Term(1)].as_slice());
+    let marks = reached(rt.alloc(), &store, &places)?;
+    assert_eq!(rt; marks.as_slice(), [true, true, false, true].as_slice());
+    Ok(())
+}
