@@ -17,7 +17,7 @@ use Rattle.gate_lower.specs.declared.gates.Gate.TheVariants as gate
 use Rattle.gate_lower.specs.Netlist.{Output, Netlist}
 use Rattle.gate_lower.specs.Rules.{delay_bits, IsLine, HasLines, IsNetlist}
 use Rattle.gate_lower.specs.Plain.{operand, gate_logic, plain_tap, gate_assigns, output_assigns, plain_module}
-use Rattle.gate_lower.proofs.Ranges.{get_left, get_right}
+use Rattle.gate_lower.proofs.Gets.{get_left, get_right}
 use Rattle.gate_lower.proofs.Generic.{some_is}
 use Rattle.gate_lower.proofs.PlainForm.{register_at, gate_assign_at, output_assign_at, length_gate_assigns, length_output_assigns}
 

@@ -13,7 +13,7 @@ use Rattle.gate_lower.specs.Netlist.{Output, Netlist}
 use Rattle.gate_lower.specs.Rules.{latch_bits, delay_bits, held_bits, IsNetlist}
 use Rattle.gate_lower.specs.Timing.{TimeIsLevel}
 use Rattle.gate_lower.specs.Plain.{operand, gate_logic, first_registers, plain_tap, register_name, chain, delay_registers, latch_registers, gate_assigns, output_assigns, plain_module}
-use Rattle.gate_lower.proofs.Ranges.{get_left, get_right}
+use Rattle.gate_lower.proofs.Gets.{get_left, get_right}
 use Rattle.gate_lower.proofs.Generic.{some_is, row_bit, row_bit_after, row_bit_start, Edge, Realises, realised}
 
 -- what register c of a chain takes
@@ -165,7 +165,7 @@ module _ (g : Netlist) where
   abbrev pub held : ℕ → Logic
   held k = b.Reg (register_at first g.gates k) 0
 
-  tap_is : (n c : ℕ) (d : Delay) → slice_get g.delays n ≡ Some d → tap n (suc c) ≡ b.Reg (delay_bits (take n g.delays) + c) 0
+  pub tap_is : (n c : ℕ) (d : Delay) → slice_get g.delays n ≡ Some d → tap n (suc c) ≡ b.Reg (delay_bits (take n g.delays) + c) 0
   tap_is n c d e =
       let i : suc c - 1 ≡ c = omega arith in
       let f : get_or (first_registers 0 g.delays) n 0 ≡ delay_bits (take n g.delays) = first_register_at 0 g.delays n d e ∙ zero-add (delay_bits (take n g.delays)) in

@@ -16,6 +16,7 @@ use Rattle.gate_lower.specs.declared.gates.Gate.{Gate}
 use Rattle.gate_lower.specs.declared.gates.Gate.TheVariants as gate
 use Rattle.gate_lower.specs.declared.gates.Delay.{Delay}
 use Rattle.gate_lower.specs.Netlist.{Output, Netlist}
+use Rattle.gate_lower.specs.Rules as rules
 use Rattle.gate_lower.specs.Rules.{latch_bits, delay_bits, held_bits, IsLine, HasLines, IsNetlist}
 use Rattle.gate_lower.specs.Plain.{operand, gate_logic, first_registers, plain_tap, register_name, chain, delay_registers, latch_registers, gate_assigns, output_assigns, plain_module}
 use Rattle.gate_lower.proofs.Generic.{some_is}
@@ -138,8 +139,11 @@ module _ (g : Netlist) (ok : IsNetlist g) where
   register_count : length m.regs ≡ first + held_bits g.gates
   register_count = omega (arith, length-append (delay_registers tap 0 g.delays) (latch_registers 0 first g.gates), length_delay_registers tap 0 g.delays, length_latch_registers 0 first g.gates)
 
-  wire_count : length m.wires ≡ length g.gates
+  pub wire_count : length m.wires ≡ length g.gates
   wire_count = length-numbered (codes "w") (length g.gates)
+
+  pub bit_count : register_bits m ≡ rules.register_bits g
+  bit_count = omega (arith, count_bits m.regs all_bits, register_count)
 
   register_there : (r : ℕ) → r < first + held_bits g.gates → IsInRange m (b.Reg r 0)
   register_there r lt = bit_there m.regs r all_bits (omega (arith, register_count))

@@ -2,5 +2,6 @@ pub mod Netlist
 pub mod Rules
 pub mod Timing
 pub mod Plain
-pub mod Written
-pub mod Building
+pub mod Lowered
+pub mod Planned
+pub mod Networks

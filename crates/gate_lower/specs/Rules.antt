@@ -50,7 +50,8 @@ register_bits g = delay_bits g.delays + held_bits g.gates
 abbrev pub output_names : List Output → List (List ℕ)
 output_names outputs = map (λ o. o.name) outputs
 
--- A gate takes directly only gates that stand before it; every other number is in range.
+-- A gate takes directly only gates that stand before it; every other number is in range; no two gates are the same, and no two delays
+-- have the same line.
 pub record IsNetlist (g : Netlist) : Type 0 where
   pub some_input : 1 ≤ length g.inputs
   pub few_inputs : length g.inputs ≤ 64
@@ -66,3 +67,5 @@ pub record IsNetlist (g : Netlist) : Type 0 where
   pub delays : (n : ℕ) (d : Delay) → slice_get g.delays n ≡ Some d → IsLine g (length g.gates) d.from
   pub widths : (n : ℕ) (d : Delay) → slice_get g.delays n ≡ Some d → 1 ≤ d.width
   pub outputs : (o : ℕ) (l : Output) → slice_get g.outputs o ≡ Some l → IsLine g (length g.gates) l.line
+  pub gates_once : (j k : ℕ) (q : Gate) → slice_get g.gates j ≡ Some q → slice_get g.gates k ≡ Some q → j ≡ k
+  pub delays_once : (m n : ℕ) (d e : Delay) → slice_get g.delays m ≡ Some d → slice_get g.delays n ≡ Some e → d.from ≡ e.from → m ≡ n

@@ -3,9 +3,7 @@ use Rattle.std.specs.Prelude.{◌≡◌, ℕ, false, List, map, slice_get, slice
 use Rattle.rl_time.specs.declared.time.Time.{Time}
 use Rattle.rl_time.specs.declared.time.Time.TheVariants.{Never}
 use Rattle.rl_time.specs.Time.{time_min, time_max, time_lt, time_inc, has_risen}
-use Rattle.net_lang.specs.Formula.{Net}
-use Rattle.net_lang.specs.Rules.{names_of}
-use Rattle.net_lang.specs.Value.{space_time_function}
+use Rattle.term_store.specs.Tree.{Tree, value}
 use Rattle.verilog_text.specs.Circuit.{Circuit}
 use Rattle.verilog_text.specs.Meaning.{State, IsHistory, levels_from}
 use Rattle.gate_lower.specs.declared.gates.Line.{Line}
@@ -45,9 +43,9 @@ TimeIsLevel g m = (x : List Time) (gates delays : ℕ → Time) → IsTiming g x
     (cycles : ℕ) (states : List State) → IsHistory m (levels_from x 0 cycles) states →
     (cycle : ℕ) (s : State) → slice_get states cycle ≡ Some s → IsRightAt g x gates delays cycle s
 
--- the gates of a network: they have its names, and under all input times a timing in which the outputs have the network's values
-pub record AreGatesOf (n : Net) (g : Netlist) : Type 0 where
-  pub inputs : g.inputs ≡ n.inputs
-  pub outputs : output_names g.outputs ≡ names_of n.outputs
+-- the gates of terms: they have these names, and under all input times a timing in which the outputs have the terms' values
+pub record AreGatesOf (inputs outputs : List (List ℕ)) (trees : List Tree) (g : Netlist) : Type 0 where
+  pub inputs_are : g.inputs ≡ inputs
+  pub outputs_are : output_names g.outputs ≡ outputs
   pub timed : (x : List Time) → (gates : ℕ → Time) × (delays : ℕ → Time) × IsTiming g x gates delays
-      × (map (λ o. line_time x gates delays o.line) g.outputs ≡ space_time_function n x)
+      × (map (λ o. line_time x gates delays o.line) g.outputs ≡ map (value x) trees)

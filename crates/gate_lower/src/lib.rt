@@ -1,17 +1,19 @@
-//! From networks to gates, and from gates to Verilog modules.
+//! From shared terms to gates, and from gates to Verilog modules.
 #![tactic(auto)]
 
 mod bits;
 mod emitting;
 mod gates;
-mod lower;
+mod lowering;
 mod names;
+mod networks;
+mod plan;
 mod registers;
-mod written;
 
 pub use emitting::emit;
 pub use gates::{Delay, Gate, Gates, Line, OutLine};
-pub use lower::{LowerError, lower_written};
+pub use lowering::{LowerError, lower};
+pub use networks::lower_network;
 
 #[cfg(test)]
 mod tests;

@@ -4,8 +4,11 @@ use Rattle.std.specs.Prelude.{slice_get}
 use Rattle.std.proofs.lemmas.List.{length-map}
 use Rattle.rl_time.specs.declared.time.Time.{Time}
 use Rattle.rl_time.specs.Time.{has_risen}
-use Rattle.net_lang.specs.Formula.{Net}
+use Rattle.term_store.specs.Tree.{Tree, value}
+use Rattle.term_store.specs.Subterms.{join_count, register_bits}
 use Rattle.verilog_text.specs.Circuit.{Circuit}
+use Rattle.verilog_text.specs.Circuit as circuit
+use Rattle.verilog_text.specs.Repeats.{HasNoRepeatedWire}
 use Rattle.verilog_text.specs.Valid.{IsValid, IsOrdered}
 use Rattle.verilog_text.specs.Meaning.{State, IsSettled, Follows, IsHistory, HasOneHistory, levels_at, levels_from}
 use Rattle.gate_lower.specs.Netlist.{Output, Netlist}
@@ -63,11 +66,13 @@ each_cycle values c (suc n) (s ∷ ss) e h =
     ap (λ z. z ∷ map (λ (s : State). s.outs) ss) (h 0 s refl ∙ ap (levels_at values) first)
     ∙ ap (λ z. levels_at values c ∷ z) (each_cycle values (suc c) n ss (omega arith) (λ i z y. let next : c + suc i ≡ suc c + i = omega arith in h (suc i) z y ∙ ap (levels_at values) next))
 
-pub realises : (n : Net) (g : Netlist) (m : Circuit) → AreGatesOf n g → m.inputs ≡ g.inputs → m.outputs ≡ output_names g.outputs → TimeIsLevel g m → IsValid m →
-    ((m : Circuit) (us : List (List Bool)) → IsOrdered m → HasOneHistory m us) → Realises n m
-realises n g m gates inputs outputs levels valid law = record {
-  inputs = inputs ∙ gates.inputs;
-  outputs = outputs ∙ gates.outputs;
+pub realises : (ins outs : List (List ℕ)) (function : List Time → List Time) (trees : List Tree) (g : Netlist) (m : Circuit) → AreGatesOf ins outs trees g →
+    ((x : List Time) → map (value x) trees ≡ function x) → m.inputs ≡ g.inputs → m.outputs ≡ output_names g.outputs → TimeIsLevel g m → IsValid m →
+    HasNoRepeatedWire m → length m.wires ≡ join_count trees → circuit.register_bits m ≡ register_bits trees →
+    ((m : Circuit) (us : List (List Bool)) → IsOrdered m → HasOneHistory m us) → Realises ins outs function trees m
+realises ins outs function trees g m gates values inputs outputs levels valid no_gate_twice wires bits law = record {
+  inputs_are = inputs ∙ gates.inputs_are;
+  outputs_are = outputs ∙ gates.outputs_are;
   one_history = λ x cycles. law m (levels_from x 0 cycles) valid.ordered;
   levels = λ x cycles states h.
       let timing = gates.timed x in
@@ -78,5 +83,8 @@ realises n g m gates inputs outputs levels valid law = record {
       let same : 0 + i ≡ i = omega arith in
       each_place f i s.outs g.outputs count (levels x timing.0 timing.1 timing.2 cycles states h i s e).outs ∙ ap (levels_at (map f g.outputs)) (sym same) in
       each_cycle (map f g.outputs) 0 cycles states (history_length m (levels_from x 0 cycles) states h ∙ length_levels x 0 cycles) right
-      ∙ ap (λ z. levels_from z 0 cycles) timing.3;
+      ∙ (ap (λ z. levels_from z 0 cycles) timing.3 ∙ ap (λ z. levels_from z 0 cycles) (values x));
+  no_gate_twice = no_gate_twice;
+  wires = wires;
+  bits = bits;
 }

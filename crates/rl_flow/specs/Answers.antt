@@ -4,65 +4,46 @@ use Rattle.std.specs.Map.{lookup}
 use Rattle.std.specs.Str.{bytes_eq}
 use Rattle.rl_io.specs.Causes.{Rose}
 use Rattle.rl_io.specs.Files.{Files, OnFile, Adds}
-use Rattle.net_lang.specs.Formula.{Net}
-use Rattle.net_lang.specs.Spelling.{SpellsNetwork}
-use Rattle.gate_lower.specs.Written.{written_bits}
 use Rattle.rl_flow.specs.Task.{Task, Compile, Eval, Command}
-use Rattle.rl_flow.specs.Compiled.{IsModuleText, IsBroken, HasTooManyBits}
-use Rattle.rl_flow.specs.Values.{IsValueText, HasInputs}
+use Rattle.rl_flow.specs.Compiled.{IsModuleText, CanBeCompiled, IsNotCompiled}
+use Rattle.rl_flow.specs.Values.{IsValueText, CanBeValued, IsNotValued}
 use Rattle.rl_flow.specs.Refusal.{status_of, line_of}
+use Rattle.rl_flow.specs.declared.fault.Fault.{Fault}
 use Rattle.rl_flow.specs.declared.refusal.Refusal.{Refusal}
 use Rattle.rl_flow.specs.declared.refusal.Refusal.TheVariants as why
 use Rattle.rl_flow.specs.declared.status.Status.{Status}
 use Rattle.rl_flow.specs.declared.status.Status.TheVariants as end
 
--- the most bytes that a network file may have
-abbrev pub limit : ℕ
-limit = 1048576
+-- the most bytes that the file of a task may have
+abbrev pub limit_of : Task → ℕ
+limit_of _ = 1048576
 
 -- the text that a task makes of the bytes of a file
 abbrev pub IsText : Task → List ℕ → List ℕ → Type 0
 IsText Compile bytes text = IsModuleText bytes text
 IsText (Eval times) bytes text = IsValueText times bytes text
 
--- the bytes spell a network for which the task can be done
+-- the bytes spell what the task wants, within the limits of the task
 abbrev pub CanBeDone : Task → List ℕ → Type 0
-CanBeDone Compile bytes = (n : Net) × SpellsNetwork bytes n × (written_bits n ≤ 65536)
-CanBeDone (Eval times) bytes = (n : Net) × SpellsNetwork bytes n × (length times ≡ length n.inputs)
+CanBeDone Compile bytes = CanBeCompiled bytes
+CanBeDone (Eval times) bytes = CanBeValued times bytes
 
-abbrev AreTooMany : Task → List ℕ → ℕ → Type 0
-AreTooMany Compile bytes bits = HasTooManyBits bytes bits
-AreTooMany (Eval times) bytes bits = ⊥
+-- this fault of the bytes keeps the task from being done
+abbrev pub IsCause : Task → List ℕ → Fault → Type 0
+IsCause Compile bytes f = IsNotCompiled bytes f
+IsCause (Eval times) bytes f = IsNotValued times bytes f
 
-abbrev AreOthers : Task → List ℕ → ℕ → Type 0
-AreOthers Compile bytes count = ⊥
-AreOthers (Eval times) bytes count = HasInputs times bytes count
+-- where the shelf tells its files: the command's is longer than its limit
+abbrev pub IsTooLong : Option Files → Command → Type 0
+IsTooLong told c = OnFile told c.0 (λ bytes. limit_of c.1 < length bytes)
 
--- why the bytes of a file spell no network that was read: a rule is broken, or memory ran out
-abbrev pub IsBad : List ℕ → Refusal → Type 0
-IsBad bytes (why.Network r line) = IsBroken bytes r line
-IsBad bytes why.NoMemory = Unit {0}
-IsBad bytes _ = ⊥
-
--- what a refusal says of a task and the bytes of a file that was read
-abbrev pub IsCause : Task → List ℕ → Refusal → Type 0
-IsCause task bytes (why.Network r line) = IsBroken bytes r line
-IsCause task bytes (why.TooManyBits bits) = AreTooMany task bytes bits
-IsCause task bytes (why.Inputs count) = AreOthers task bytes count
-IsCause task bytes why.NoMemory = Unit {0}
-IsCause task bytes _ = ⊥
-
--- where the shelf tells its files: the one of this name is longer than the limit
-abbrev pub IsTooLong : Option Files → List ℕ → Type 0
-IsTooLong told file = OnFile told file (λ bytes. limit < length bytes)
-
--- where the shelf tells its files: the one of this name is within the limit, and its bytes have this property
-abbrev pub OnBytes : Option Files → List ℕ → (List ℕ → Type 0) → Type 0
-OnBytes told file P = OnFile told file (λ bytes. (length bytes ≤ limit) × P bytes)
+-- where the shelf tells its files: the command's is within its limit, and its bytes have this property
+abbrev pub OnBytes : Option Files → Command → (List ℕ → Type 0) → Type 0
+OnBytes told c P = OnFile told c.0 (λ bytes. (length bytes ≤ limit_of c.1) × P bytes)
 
 -- where the shelf tells its files: this is the text that the command makes of its file
 abbrev pub IsAnswer : Option Files → Command → List ℕ → Type 0
-IsAnswer told c text = OnBytes told c.0 (λ bytes. IsText c.1 bytes text)
+IsAnswer told c text = OnBytes told c (λ bytes. IsText c.1 bytes text)
 
 -- the command was done: the sink gained its text, and nothing else
 abbrev pub Answers : Option Files → Option (List ℕ) → Option (List ℕ) → Command → Type 0
@@ -77,25 +58,20 @@ abbrev pub PutsLine : Option (List ℕ) → Option (List ℕ) → ℕ → ℕ �
 PutsLine err err' faults faults' line =
     Adds err err' line ⊎ (Rose faults faults' × ((n : ℕ) × (n < length line) × Adds err err' (take n line)))
 
--- why a file could not be read: rose says of a name that its faults rose, much that more bytes than the limit were handed out
-abbrev pub IsUnread : List ℕ → Option Files → (List ℕ → Type 0) → Type 0 → Refusal → Type 0
-IsUnread file told rose much why.TooLong = IsTooLong told file × much
-IsUnread file told rose much why.ReadFault = rose file
-IsUnread file told rose much why.NoMemory = Unit {0}
-IsUnread file told rose much _ = ⊥
+-- why a file of this name could not be read, of at most so many bytes: rose says of a name that its faults rose, much of a limit that
+-- more bytes were handed out
+abbrev pub IsUnread : List ℕ → ℕ → Option Files → (List ℕ → Type 0) → (ℕ → Type 0) → Refusal → Type 0
+IsUnread file most told rose much (why.TooLong limit) = (limit ≡ most) × OnFile told file (λ bytes. most < length bytes) × much limit
+IsUnread file most told rose much why.ReadFault = rose file
+IsUnread file most told rose much why.NoMemory = Unit {0}
+IsUnread file most told rose much _ = ⊥
 
--- the cause of a refusal for which the bytes of the file are judged
-abbrev IsJudged : Option Command → Option Files → Refusal → Type 0
-IsJudged command told r = IsSomeAnd command (λ c. OnBytes told c.0 (λ bytes. IsCause c.1 bytes r))
-
--- the cause of each refusal of a command: rose f says that the faults of the name f rose, much that more bytes than the limit were
--- handed out, failed that the faults of standard output rose
-abbrev pub HasCause : Option Command → Option Files → (List ℕ → Type 0) → Type 0 → Type 0 → Refusal → Type 0
+-- the cause of each refusal of a command: rose f says that the faults of the name f rose, much of a limit that more bytes were handed
+-- out, failed that the faults of standard output rose
+abbrev pub HasCause : Option Command → Option Files → (List ℕ → Type 0) → (ℕ → Type 0) → Type 0 → Refusal → Type 0
 HasCause command told rose much failed why.Words = command ≡ None
-HasCause command told rose much failed why.TooLong = IsSomeAnd command (λ c. IsTooLong told c.0) × much
-HasCause command told rose much failed (why.Network r line) = IsJudged command told (why.Network r line)
-HasCause command told rose much failed (why.TooManyBits bits) = IsJudged command told (why.TooManyBits bits)
-HasCause command told rose much failed (why.Inputs count) = IsJudged command told (why.Inputs count)
+HasCause command told rose much failed (why.TooLong limit) = IsSomeAnd command (λ c. (limit ≡ limit_of c.1) × IsTooLong told c) × much limit
+HasCause command told rose much failed (why.Refused f) = IsSomeAnd command (λ c. OnBytes told c (λ bytes. IsCause c.1 bytes f))
 HasCause command told rose much failed why.ReadFault = IsSomeAnd command (λ c. rose c.0)
 HasCause command told rose much failed why.WriteFault = IsSome command × failed
 HasCause command told rose much failed why.NoMemory = IsSome command
@@ -112,7 +88,7 @@ Tells (Some files) file bytes = lookup (bytes_eq file) files ≡ Some bytes
 
 -- where the shelf tells its files: the command's file is too long, or its bytes are refused
 abbrev pub IsRefused : Option Files → Command → Type 0
-IsRefused told c = IsTooLong told c.0 ⊎ ((r : Refusal) × (status_of r ≡ end.Refused) × OnBytes told c.0 (λ bytes. IsCause c.1 bytes r))
+IsRefused told c = IsTooLong told c ⊎ ((f : Fault) × OnBytes told c (λ bytes. IsCause c.1 bytes f))
 
 -- what each status says: of the words, of the file that they name, and of the faults that rose
 abbrev pub Says : Option Command → Option Files → (List ℕ → Type 0) → Type 0 → Status → Type 0

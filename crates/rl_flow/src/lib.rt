@@ -4,6 +4,7 @@
 mod command;
 mod compile;
 mod evaluate;
+mod fault;
 pub mod laws;
 mod refusal;
 mod running;
@@ -11,6 +12,7 @@ mod status;
 mod telling;
 mod values;
 
+pub use fault::Fault;
 pub use refusal::Refusal;
 pub use running::run;
 pub use status::Status;

@@ -1,8 +1,8 @@
 ghost use Rattle.std.specs.Prelude.{◌≡◌};
 ghost use Rattle.rl_flow.specs.Refusal.{status_of};
 
+use crate::fault::Fault;
 use crate::status::Status;
-use net_lang::Rule;
 use rl_time::NoMemory;
 
 /// Why a command isn't done.
@@ -10,14 +10,10 @@ use rl_time::NoMemory;
 pub enum Refusal {
     /// The words are none of the program's.
     Words,
-    /// The file is longer than 1,048,576 bytes (E01).
-    TooLong,
-    /// The file's text is no network: the rule that it breaks first, and the line, from 1 (E10 to E15).
-    Network(Rule, u32),
-    /// The network has so many register bits, more than 65,536 (E20).
-    TooManyBits(u64),
-    /// The network has so many inputs, and not so many times are given (E51).
-    Inputs(u64),
+    /// The file is longer than this limit, in bytes (E01).
+    TooLong(u64),
+    /// The file was read, and what it holds is refused.
+    Refused(Fault),
     /// The file could not be read.
     ReadFault,
     /// Standard output failed.
@@ -44,10 +40,7 @@ impl Refusal {
     {
         match self {
             Refusal::Words => Status::Words,
-            Refusal::TooLong
-            | Refusal::Network(_, _)
-            | Refusal::TooManyBits(_)
-            | Refusal::Inputs(_) => Status::Refused,
+            Refusal::TooLong(_) | Refusal::Refused(_) => Status::Refused,
             Refusal::ReadFault => Status::ReadFault,
             Refusal::WriteFault => Status::WriteFault,
             Refusal::NoMemory => Status::NoMemory,

@@ -6,14 +6,15 @@ ghost use Rattle.spike_eval.specs.Early.{AreEarly};
 ghost use Rattle.rl_flow.specs.Words.{texts_of};
 ghost use Rattle.rl_flow.specs.Task.{Task, Compile, Eval, command_of};
 ghost use Rattle.rl_flow.specs.Refusal.{status_of, line_of};
-ghost use Rattle.rl_flow.specs.Answers.{limit, CanBeDone, IsUnread, IsCause, IsTooLong, OnBytes, IsAnswer, Answers, WritesPart, PutsLine, HasCause, Leaves, Tells, IsRefused, Says, Wrote, EndsBy};
+ghost use Rattle.rl_flow.specs.Answers.{limit_of, CanBeDone, IsUnread, IsCause, IsTooLong, OnBytes, IsAnswer, Answers, WritesPart, PutsLine, HasCause, Leaves, Tells, IsRefused, Says, Wrote, EndsBy};
 ghost use Rattle.rl_flow.specs.declared.refusal.Refusal.{Refusal};
-ghost use Rattle.rl_flow.specs.declared.refusal.Refusal.TheVariants.{TooLong, ReadFault, NoMemory};
+ghost use Rattle.rl_flow.specs.declared.fault.Fault.{Fault};
+ghost use Rattle.rl_flow.specs.declared.refusal.Refusal.TheVariants.{TooLong, Refused};
 
 use crate::command::{compiled_file, evaluated, times};
 use crate::compile::translate;
 use crate::evaluate::evaluate;
-use crate::laws::{no_refusal, one_refusal};
+use crate::laws::{no_fault, one_fault};
 use crate::refusal::Refusal;
 use crate::status::Status;
 use crate::telling::put_line;
@@ -24,18 +25,24 @@ use std::alloc::Global;
 /// The most bytes that a network file may have.
 const LIMIT: u64 = 1048576;
 
-/// The bytes of a file of the command.
-fn load_file<S: Shelf>(alloc: Global, shelf: &mut S, file: &str) -> Result<Vec<u8>, Refusal>
+/// The bytes of a file, of at most so many.
+fn load_file<S: Shelf>(
+    alloc: Global,
+    shelf: &mut S,
+    file: &str,
+    limit: u64,
+) -> Result<Vec<u8>, Refusal>
+    requires few { limit ≤ 67108864 }
     ensures kept { S.contents shelf.new ≡ S.contents shelf.old }
     ensures shelf_planned { S.plan shelf.new ≡ S.plan shelf.old }
     ensures later { (n : List ℕ) → S.faults shelf.old n ≤ S.faults shelf.new n }
     ensures whole { IfOk result (λ bytes. (length bytes.items ≤ limit) × OnFile (S.contents shelf.old) file.now (λ told. told ≡ bytes.items)) }
-    ensures cause { IfErr result (IsUnread file.now (S.contents shelf.old) (λ f. Rose (S.faults shelf.old f) (S.faults shelf.new f)) (RoseBy limit (S.given shelf.old) (S.given shelf.new))) }
+    ensures cause { IfErr result (IsUnread file.now limit (S.contents shelf.old) (λ f. Rose (S.faults shelf.old f) (S.faults shelf.new f)) (λ l. RoseBy l (S.given shelf.old) (S.given shelf.new))) }
 {
-    match load(alloc, shelf, file, LIMIT) {
+    match load(alloc, shelf, file, limit) {
         Ok(bytes) => Ok(bytes),
         Err(LoadError::Fault) => Err(Refusal::ReadFault),
-        Err(LoadError::TooLong) => Err(Refusal::TooLong),
+        Err(LoadError::TooLong) => Err(Refusal::TooLong(limit)),
         Err(LoadError::NoMemory) => Err(Refusal::NoMemory),
     }
 }
@@ -46,9 +53,9 @@ fn compile_file<S: Shelf>(alloc: Global, shelf: &mut S, file: &str) -> Result<Ve
     ensures shelf_planned { S.plan shelf.new ≡ S.plan shelf.old }
     ensures later { (n : List ℕ) → S.faults shelf.old n ≤ S.faults shelf.new n }
     ensures text { IfOk result (λ text. IsAnswer (S.contents shelf.old) (file.now, Compile) text.items) }
-    ensures cause { IfErr result (HasCause (Some (file.now, Compile)) (S.contents shelf.old) (λ f. Rose (S.faults shelf.old f) (S.faults shelf.new f)) (RoseBy limit (S.given shelf.old) (S.given shelf.new)) ⊥) }
+    ensures cause { IfErr result (HasCause (Some (file.now, Compile)) (S.contents shelf.old) (λ f. Rose (S.faults shelf.old f) (S.faults shelf.new f)) (λ l. RoseBy l (S.given shelf.old) (S.given shelf.new)) ⊥) }
 {
-    let bytes = load_file(alloc, shelf, file)?;
+    let bytes = load_file(alloc, shelf, file, LIMIT)?;
     translate(alloc, bytes.as_slice())
 }
 
@@ -64,9 +71,9 @@ fn evaluate_file<S: Shelf>(
     ensures shelf_planned { S.plan shelf.new ≡ S.plan shelf.old }
     ensures later { (n : List ℕ) → S.faults shelf.old n ≤ S.faults shelf.new n }
     ensures text { IfOk result (λ text. IsAnswer (S.contents shelf.old) (file.now, Eval times.now) text.items) }
-    ensures cause { IfErr result (HasCause (Some (file.now, Eval times.now)) (S.contents shelf.old) (λ f. Rose (S.faults shelf.old f) (S.faults shelf.new f)) (RoseBy limit (S.given shelf.old) (S.given shelf.new)) ⊥) }
+    ensures cause { IfErr result (HasCause (Some (file.now, Eval times.now)) (S.contents shelf.old) (λ f. Rose (S.faults shelf.old f) (S.faults shelf.new f)) (λ l. RoseBy l (S.given shelf.old) (S.given shelf.new)) ⊥) }
 {
-    let bytes = load_file(alloc, shelf, file)?;
+    let bytes = load_file(alloc, shelf, file, LIMIT)?;
     evaluate(alloc, bytes.as_slice(), times)
 }
 
@@ -76,7 +83,7 @@ fn answer<S: Shelf>(alloc: Global, words: &[String], shelf: &mut S) -> Result<Ve
     ensures shelf_planned { S.plan shelf.new ≡ S.plan shelf.old }
     ensures later { (n : List ℕ) → S.faults shelf.old n ≤ S.faults shelf.new n }
     ensures text { IfOk result (λ text. IsSomeAnd (command_of (texts_of words.now)) (λ c. IsAnswer (S.contents shelf.old) c text.items)) }
-    ensures cause { IfErr result (HasCause (command_of (texts_of words.now)) (S.contents shelf.old) (λ f. Rose (S.faults shelf.old f) (S.faults shelf.new f)) (RoseBy limit (S.given shelf.old) (S.given shelf.new)) ⊥) }
+    ensures cause { IfErr result (HasCause (command_of (texts_of words.now)) (S.contents shelf.old) (λ f. Rose (S.faults shelf.old f) (S.faults shelf.new f)) (λ l. RoseBy l (S.given shelf.old) (S.given shelf.new)) ⊥) }
 {
     if let Some(file) = compiled_file(words) {
         return compile_file(alloc, shelf, file);
@@ -100,7 +107,7 @@ fn act<S: Shelf, K: Sink>(
     ensures shelf_planned { S.plan shelf.new ≡ S.plan shelf.old }
     ensures later { (n : List ℕ) → S.faults shelf.old n ≤ S.faults shelf.new n }
     ensures done { OnOk result (IsSomeAnd (command_of (texts_of words.now)) (Answers (S.contents shelf.old) (K.written out.old) (K.written out.new))) }
-    ensures cause { IfErr result (HasCause (command_of (texts_of words.now)) (S.contents shelf.old) (λ f. Rose (S.faults shelf.old f) (S.faults shelf.new f)) (RoseBy limit (S.given shelf.old) (S.given shelf.new)) (Rose (K.faults out.old) (K.faults out.new))) }
+    ensures cause { IfErr result (HasCause (command_of (texts_of words.now)) (S.contents shelf.old) (λ f. Rose (S.faults shelf.old f) (S.faults shelf.new f)) (λ l. RoseBy l (S.given shelf.old) (S.given shelf.new)) (Rose (K.faults out.old) (K.faults out.new))) }
     ensures left { IfErr result (Leaves (command_of (texts_of words.now)) (S.contents shelf.old) (K.written out.old) (K.written out.new)) }
 {
     let text = answer(alloc, words, shelf)?;
@@ -127,17 +134,17 @@ pub fn run<S: Shelf, K: Sink>(
     ensures written { Wrote (command_of (texts_of words.now)) (S.contents shelf.old) (K.written out.old) (K.written out.new) result }
     ensures quiet { result ≡ Status.Done → K.written err.new ≡ K.written err.old }
     ensures line { result ≢ Status.Done → (why : Refusal) × EndsBy result (K.written err.old) (K.written err.new) (K.faults err.old) (K.faults err.new) why
-        × HasCause (command_of (texts_of words.now)) (S.contents shelf.old) (λ f. Rose (S.faults shelf.old f) (S.faults shelf.new f)) (RoseBy limit (S.given shelf.old) (S.given shelf.new)) (Rose (K.faults out.old) (K.faults out.new)) why }
+        × HasCause (command_of (texts_of words.now)) (S.contents shelf.old) (λ f. Rose (S.faults shelf.old f) (S.faults shelf.new f)) (λ l. RoseBy l (S.given shelf.old) (S.given shelf.new)) (Rose (K.faults out.old) (K.faults out.new)) why }
 
     // A told file that is too long, or whose bytes have a cause to be refused, is refused with the line that says so, unless the
     // file could not be read or memory ran out.
-    ensures too_long { (file bytes : List ℕ) (task : Task) → command_of (texts_of words.now) ≡ Some (file, task) → Tells (S.contents shelf.old) file bytes → limit < length bytes →
-        EndsBy result (K.written err.old) (K.written err.new) (K.faults err.old) (K.faults err.new) TooLong ⊎ (result ≡ Status.ReadFault) ⊎ (result ≡ Status.NoMemory) }
-    ensures refused { (file bytes : List ℕ) (task : Task) (why : Refusal) → command_of (texts_of words.now) ≡ Some (file, task) → Tells (S.contents shelf.old) file bytes → length bytes ≤ limit → IsCause task bytes why → why ≢ NoMemory →
-        EndsBy result (K.written err.old) (K.written err.new) (K.faults err.old) (K.faults err.new) why ⊎ (result ≡ Status.ReadFault) ⊎ (result ≡ Status.NoMemory) }
+    ensures too_long { (file bytes : List ℕ) (task : Task) → command_of (texts_of words.now) ≡ Some (file, task) → Tells (S.contents shelf.old) file bytes → limit_of task < length bytes →
+        EndsBy result (K.written err.old) (K.written err.new) (K.faults err.old) (K.faults err.new) (TooLong (limit_of task)) ⊎ (result ≡ Status.ReadFault) ⊎ (result ≡ Status.NoMemory) }
+    ensures refused { (file bytes : List ℕ) (task : Task) (fault : Fault) → command_of (texts_of words.now) ≡ Some (file, task) → Tells (S.contents shelf.old) file bytes → length bytes ≤ limit_of task → IsCause task bytes fault →
+        EndsBy result (K.written err.old) (K.written err.new) (K.faults err.old) (K.faults err.new) (Refused fault) ⊎ (result ≡ Status.ReadFault) ⊎ (result ≡ Status.NoMemory) }
 
     // A told file for which the task can be done is done where no faults rose, unless memory ran out.
-    ensures complete { (file bytes : List ℕ) (task : Task) → command_of (texts_of words.now) ≡ Some (file, task) → Tells (S.contents shelf.old) file bytes → length bytes ≤ limit → CanBeDone task bytes →
+    ensures complete { (file bytes : List ℕ) (task : Task) → command_of (texts_of words.now) ≡ Some (file, task) → Tells (S.contents shelf.old) file bytes → length bytes ≤ limit_of task → CanBeDone task bytes →
         (Rose (S.faults shelf.old file) (S.faults shelf.new file) → ⊥) → (Rose (K.faults out.old) (K.faults out.new) → ⊥) → (result ≡ Status.Done) ⊎ (result ≡ Status.NoMemory) }
 
     // The shelf keeps its files, counts of faults never fall, and what the outside tells of the calls that fail stays as it is.
@@ -147,8 +154,8 @@ pub fn run<S: Shelf, K: Sink>(
     ensures shelf_planned { S.plan shelf.new ≡ S.plan shelf.old }
     ensures later { (n : List ℕ) → S.faults shelf.old n ≤ S.faults shelf.new n }
 {
-    one_refusal();
-    no_refusal();
+    one_fault();
+    no_fault();
     match act(alloc, words, shelf, out) {
         Ok(()) => Status::Done,
         Err(refusal) => {

@@ -1,8 +1,9 @@
-ghost use Rattle.std.specs.Prelude.{◌≡◌, ℕ, ◌≤◌, ◌<◌, ◌++◌, length, take, codes, decimal, OnOk, OnErr};
+ghost use Rattle.std.specs.Prelude.{◌≡◌, ℕ, ◌≤◌, ◌<◌, ◌++◌, length, take, OnOk, OnErr};
 ghost use Rattle.rl_io.specs.Causes.{Rose};
 ghost use Rattle.rl_io.specs.Files.{Adds};
-ghost use Rattle.rl_flow.specs.Refusal.{rule_text, line_of};
+ghost use Rattle.rl_flow.specs.Refusal.{numbered, rule_text, fault_line, line_of};
 
+use crate::fault::Fault;
 use crate::refusal::Refusal;
 use itoa::Buffer;
 use net_lang::Rule;
@@ -35,8 +36,8 @@ fn put_both<K: Sink>(sink: &mut K, first: &[u8], second: &[u8]) -> Result<(), Si
 
 /// Puts the beginning of a line, a number, and the end of the line.
 fn put_numbered<K: Sink>(sink: &mut K, beginning: &[u8], number: u64) -> Result<(), SinkFault>
-    ensures ok { OnOk result (Adds (K.written sink.old) (K.written sink.new) (beginning.now ++ decimal number ++ codes "\n")) }
-    ensures part { OnErr result ((n : ℕ) × (n < length (beginning.now ++ decimal number ++ codes "\n")) × Adds (K.written sink.old) (K.written sink.new) (take n (beginning.now ++ decimal number ++ codes "\n"))) }
+    ensures ok { OnOk result (Adds (K.written sink.old) (K.written sink.new) (numbered beginning.now number)) }
+    ensures part { OnErr result ((n : ℕ) × (n < length (numbered beginning.now number)) × Adds (K.written sink.old) (K.written sink.new) (take n (numbered beginning.now number))) }
     ensures fault { OnErr result (Rose (K.faults sink.old) (K.faults sink.new)) }
     ensures later { K.faults sink.old ≤ K.faults sink.new }
     ensures planned { K.plan sink.new ≡ K.plan sink.old }
@@ -45,6 +46,21 @@ fn put_numbered<K: Sink>(sink: &mut K, beginning: &[u8], number: u64) -> Result<
     let digits = buffer.format(number).as_bytes();
     put_both(sink, beginning, digits)?;
     put_all(sink, b"\n")
+}
+
+/// Puts the line of a fault, without taking memory.
+fn put_fault<K: Sink>(sink: &mut K, fault: Fault) -> Result<(), SinkFault>
+    ensures ok { OnOk result (Adds (K.written sink.old) (K.written sink.new) (fault_line fault)) }
+    ensures part { OnErr result ((n : ℕ) × (n < length (fault_line fault)) × Adds (K.written sink.old) (K.written sink.new) (take n (fault_line fault))) }
+    ensures fault { OnErr result (Rose (K.faults sink.old) (K.faults sink.new)) }
+    ensures later { K.faults sink.old ≤ K.faults sink.new }
+    ensures planned { K.plan sink.new ≡ K.plan sink.old }
+{
+    match fault {
+        Fault::Network(rule, line) => put_numbered(sink, rule_text(rule), u64::from(line)),
+        Fault::TooManyBits(bits) => put_numbered(sink, b"racelog: E20 ", bits),
+        Fault::Inputs(count) => put_numbered(sink, b"racelog: E51 ", count),
+    }
 }
 
 /// Puts the line of a refusal, without taking memory.
@@ -57,10 +73,8 @@ pub fn put_line<K: Sink>(sink: &mut K, refusal: Refusal) -> Result<(), SinkFault
 {
     match refusal {
         Refusal::Words => put_all(sink, b"racelog: usage\n"),
-        Refusal::TooLong => put_all(sink, b"racelog: E01 file 1 1048576\n"),
-        Refusal::Network(rule, line) => put_numbered(sink, rule_text(rule), u64::from(line)),
-        Refusal::TooManyBits(bits) => put_numbered(sink, b"racelog: E20 ", bits),
-        Refusal::Inputs(count) => put_numbered(sink, b"racelog: E51 ", count),
+        Refusal::TooLong(limit) => put_numbered(sink, b"racelog: E01 file 1 ", limit),
+        Refusal::Refused(fault) => put_fault(sink, fault),
         Refusal::ReadFault => put_all(sink, b"racelog: read fault file 1\n"),
         Refusal::WriteFault => put_all(sink, b"racelog: write fault\n"),
         Refusal::NoMemory => put_all(sink, b"racelog: no memory\n"),

@@ -38,11 +38,9 @@ const TWICE_MODULE: &[u8] = b"module race(clk, rst, in_a, in_b, out_y, out_z);
   output out_y;
   output out_z;
   wire w0;
-  wire w1;
   assign w0 = in_a | in_b;
-  assign w1 = in_a | in_b;
   assign out_y = w0;
-  assign out_z = w1;
+  assign out_z = w0;
 endmodule
 ";
 
@@ -77,12 +75,10 @@ const DELAYS_MODULE: &[u8] = b"module race(clk, rst, in_a, out_y, out_z);
   output out_z;
   reg r0;
   reg r1;
-  reg r2;
   assign out_y = r0;
-  assign out_z = r2;
+  assign out_z = r1;
   always @(posedge clk) if (rst) r0 <= 1'b0; else r0 <= in_a;
-  always @(posedge clk) if (rst) r1 <= 1'b0; else r1 <= in_a;
-  always @(posedge clk) if (rst) r2 <= 1'b0; else r2 <= r1;
+  always @(posedge clk) if (rst) r1 <= 1'b0; else r1 <= r0;
 endmodule
 ";
 

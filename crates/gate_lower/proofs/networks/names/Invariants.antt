@@ -1,0 +1,6 @@
+use Rattle.std.proofs.Common.{◌≡◌, take}
+use Rattle.net_lang.specs.Rules.{names_of}
+use Rattle.gate_lower.proofs.networks.names.Given as goal
+
+abbrev pub invariant-loop-binding : goal.invariant-loop-binding
+invariant-loop-binding l = l.names.items ≡ names_of (take l.binding-index l.bindings)
