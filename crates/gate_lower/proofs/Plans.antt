@@ -10,8 +10,8 @@ use Rattle.term_store.specs.declared.node.Node.{Node}
 use Rattle.term_store.specs.declared.node.Node.TheVariants.{Input, Never, Min, Max, Lt, Inc}
 use Rattle.term_store.specs.Nodes.{node_at}
 use Rattle.term_store.specs.declared.node.Term.{Term}
-use Rattle.term_store.specs.Reach.{IsReached}
-use Rattle.term_store.specs.Places.{places, is_reached, reach_marks, is_marked, node_delay, marked_delay, longest_upto, longest_at}
+use Rattle.term_store.specs.Reach.{is_reached, IsReached}
+use Rattle.term_store.specs.Places.{places, reach_marks, is_marked, node_delay, marked_delay, longest_upto, longest_at}
 use Rattle.gate_lower.specs.declared.gates.Line.{Line}
 use Rattle.gate_lower.specs.declared.gates.Delay.{Delay}
 use Rattle.gate_lower.specs.Lowered.{is_delayed, delay_number}

@@ -13,7 +13,7 @@ use net_lang::{Binding, Network};
 use rl_text::Name;
 use rl_time::NoMemory;
 use std::alloc::Global;
-use term_store::{Store, network_terms_are_few, networks_have_ports};
+use term_store::{Store, network_names_are_ports, network_terms_are_few};
 
 /// The names of bindings, in order.
 fn names(alloc: Global, bindings: &[Binding]) -> Result<Vec<Name>, NoMemory>
@@ -39,7 +39,7 @@ pub fn lower_network(alloc: Global, n: &Network) -> Result<Gates, LowerError>
 {
     n.rules();
     network_terms_are_few();
-    networks_have_ports();
+    network_names_are_ports();
     let mut store = Store::new(alloc)?;
     let roots = store.build(alloc, n)?;
     let outputs = names(alloc, n.outputs())?;

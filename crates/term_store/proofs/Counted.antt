@@ -14,8 +14,8 @@ use Rattle.term_store.specs.Nodes.{node_at, IsNodeOver, IsNodes}
 use Rattle.term_store.specs.Tree.{Tree, Never, Input, Min, Max, Lt, Inc}
 use Rattle.term_store.specs.Trees.{tree, trees, trees_at, node_tree}
 use Rattle.term_store.specs.Subterms.{all_subterms, same_tree, is_among, distinct_subterms, is_join, is_delay, is_lt, lt_count, delay_of, longest_delay, IsInputBelow}
-use Rattle.term_store.specs.Reach.{IsOperand, AreLeastClosed}
-use Rattle.term_store.specs.Places.{places, is_reached, reach_marks, is_marked, is_join_node, is_lt_node, is_delay_node, is_marked_with, node_delay, marked_delay, longest_at, marked_upto, CountsAreRight, MarksAreClosed, tree_by_places}
+use Rattle.term_store.specs.Reach.{is_reached, IsOperand, AreLeastClosed}
+use Rattle.term_store.specs.Places.{places, reach_marks, is_marked, is_join_node, is_lt_node, is_delay_node, is_marked_with, node_delay, marked_delay, longest_at, marked_upto, CountsAreRight, MarksAreClosed, tree_by_places}
 use Rattle.term_store.proofs.ListedPlaces.{map_next, at_listed, filter_next, kept, one_if, count_next}
 use Rattle.term_store.proofs.Parts.{IsIn, same_refl, same_is, same_from, or_left, or_right, or_either, among_append, all_among}
 use Rattle.term_store.proofs.Distinct.{tree_is, distinct_trees}

@@ -103,14 +103,14 @@ distinct_filter p (u ∷ us) h = go (p u) refl (distinct_filter p us h.1)
     go true e rest = subst (λ b. IsDistinct same_tree (if b then u ∷ filter p us else filter p us)) (sym e) (apart_filter u p us h.0, rest)
     go false e rest = subst (λ b. IsDistinct same_tree (if b then u ∷ filter p us else filter p us)) (sym e) rest
 
-among_filter : (p : Tree → Bool) (s : Tree) (ts : List Tree) → is_among s (filter p ts) ≡ (p s && is_among s ts)
+pub among_filter : (p : Tree → Bool) (s : Tree) (ts : List Tree) → is_among s (filter p ts) ≡ (p s && is_among s ts)
 among_filter p s ts = any-filter_same (same_tree s) p (p s) (λ t e. ap p (sym (same_is s t e))) ts
 
-and_parts : (p q : Bool) → (p && q) ≡ true → (p ≡ true) × (q ≡ true)
+pub and_parts : (p q : Bool) → (p && q) ≡ true → (p ≡ true) × (q ≡ true)
 and_parts true q e = (refl, e)
 and_parts false q e = absurd (true≢false (sym e))
 
-and_both : (p q : Bool) → p ≡ true → q ≡ true → (p && q) ≡ true
+pub and_both : (p q : Bool) → p ≡ true → q ≡ true → (p && q) ≡ true
 and_both p q e f = ap (λ b. b && q) e ∙ f
 
 -- distinct subterms that pass are no more than a list that has them all
@@ -179,10 +179,10 @@ own_delays ts (formula.Inc a c) = omega (arith, own_delays ts a, one_delay (tree
 abbrev pub Covers : List Tree → List Tree → Type 0
 Covers ts all = (s : Tree) (j : ℕ) → is_operator s ≡ true → IsIn s (tree_in ts j) → is_among s all ≡ true
 
-more_left : (s : Tree) (xs ys : List Tree) → is_among s xs ≡ true → is_among s (xs ++ ys) ≡ true
+pub more_left : (s : Tree) (xs ys : List Tree) → is_among s xs ≡ true → is_among s (xs ++ ys) ≡ true
 more_left s xs ys e = among_append s xs ys ∙ or_left (is_among s xs) (is_among s ys) e
 
-more_right : (s : Tree) (xs ys : List Tree) → is_among s ys ≡ true → is_among s (xs ++ ys) ≡ true
+pub more_right : (s : Tree) (xs ys : List Tree) → is_among s ys ≡ true → is_among s (xs ++ ys) ≡ true
 more_right s xs ys e = among_append s xs ys ∙ or_right (is_among s xs) (is_among s ys) e
 
 either_more : (s : Tree) (all xs ys : List Tree) → (is_among s all ≡ true) ⊎ (is_among s xs ≡ true) → (is_among s all ≡ true) ⊎ (is_among s (xs ++ ys) ≡ true)

@@ -13,6 +13,11 @@ pub mod Parts
 pub mod Marks
 pub mod TermValues
 pub mod FewTerms
+pub mod Lets
+pub mod LetTrees
+pub mod LetRules
+pub mod LetCounts
+pub mod LetNames
+pub mod ExtractedIs
 pub mod ListedPlaces
 pub mod Counted
-pub mod NetworkPorts

@@ -127,25 +127,25 @@ held_node ns t i s h e n f =
     let w : place_of ns n < length ns = subst (λ k. k < length ns) (sym (f ∙ place_tree ns t i s h e)) h in
     with_held ns n (held_at ns n (place_of ns n) w (sym (same_is _ _ (passes_at_first (same_node n) ns node.Never w))))
 
-held_Min : (ns : List Node) (a b : Tree) (i : ℕ) (n : Node) → IsNodes ns → i < length ns → node_at ns i ≡ n → node_tree (trees ns) n ≡ Min a b → IsHeld ns a × IsHeld ns b
+pub held_Min : (ns : List Node) (a b : Tree) (i : ℕ) (n : Node) → IsNodes ns → i < length ns → node_at ns i ≡ n → node_tree (trees ns) n ≡ Min a b → IsHeld ns a × IsHeld ns b
 held_Min ns a b i (node.Min x y) s h at f =
     let o : IsNodeOver i (node.Min x y) = subst (IsNodeOver i) at (s.lower i h) in
     ((x.0, omega (arith, o.0), cc), (y.0, omega (arith, o.1), cc))
 held_Min ns a b i n s h at f = cc
 
-held_Max : (ns : List Node) (a b : Tree) (i : ℕ) (n : Node) → IsNodes ns → i < length ns → node_at ns i ≡ n → node_tree (trees ns) n ≡ Max a b → IsHeld ns a × IsHeld ns b
+pub held_Max : (ns : List Node) (a b : Tree) (i : ℕ) (n : Node) → IsNodes ns → i < length ns → node_at ns i ≡ n → node_tree (trees ns) n ≡ Max a b → IsHeld ns a × IsHeld ns b
 held_Max ns a b i (node.Max x y) s h at f =
     let o : IsNodeOver i (node.Max x y) = subst (IsNodeOver i) at (s.lower i h) in
     ((x.0, omega (arith, o.0), cc), (y.0, omega (arith, o.1), cc))
 held_Max ns a b i n s h at f = cc
 
-held_Lt : (ns : List Node) (a b : Tree) (i : ℕ) (n : Node) → IsNodes ns → i < length ns → node_at ns i ≡ n → node_tree (trees ns) n ≡ Lt a b → IsHeld ns a × IsHeld ns b
+pub held_Lt : (ns : List Node) (a b : Tree) (i : ℕ) (n : Node) → IsNodes ns → i < length ns → node_at ns i ≡ n → node_tree (trees ns) n ≡ Lt a b → IsHeld ns a × IsHeld ns b
 held_Lt ns a b i (node.Lt x y) s h at f =
     let o : IsNodeOver i (node.Lt x y) = subst (IsNodeOver i) at (s.lower i h) in
     ((x.0, omega (arith, o.0), cc), (y.0, omega (arith, o.1), cc))
 held_Lt ns a b i n s h at f = cc
 
-held_Inc : (ns : List Node) (a : Tree) (c i : ℕ) (n : Node) → IsNodes ns → i < length ns → node_at ns i ≡ n → node_tree (trees ns) n ≡ Inc a c → IsHeld ns a
+pub held_Inc : (ns : List Node) (a : Tree) (c i : ℕ) (n : Node) → IsNodes ns → i < length ns → node_at ns i ≡ n → node_tree (trees ns) n ≡ Inc a c → IsHeld ns a
 held_Inc ns a c i (node.Inc x d) s h at f =
     let o : IsNodeOver i (node.Inc x d) = subst (IsNodeOver i) at (s.lower i h) in
     (x.0, omega (arith, o.0), cc)

@@ -87,7 +87,7 @@ span_over ts (formula.Max a b) = λ i. max (span_over ts a i) (span_over ts b i)
 span_over ts (formula.Lt a b) = λ i. max (span_over ts a i) (span_over ts b i)
 span_over ts (formula.Inc a c) = span_delayed (tree_over ts a) c ∙ ap (λ s. s + c) (span_over ts a)
 
-spans_from : (ts : List Tree) (es : List Equation) →
+pub spans_from : (ts : List Tree) (es : List Equation) →
     map span (fold (λ trees e. trees ++ tree_over trees e.body ∷ []) ts es) ≡ fold (λ spans e. spans ++ rules.span spans e.body ∷ []) (map span ts) es
 spans_from ts [] = refl
 spans_from ts (e ∷ es) =

@@ -5,6 +5,8 @@ pub mod Nodes
 pub mod Trees
 pub mod Planting
 pub mod Reach
+pub mod Extracted
+pub mod Extracting
 pub mod Laws
-pub mod Places
 pub mod Ports
+pub mod Places

@@ -12,6 +12,7 @@ pub record Contents : Type 0 where
   pub nodes : List Node
   pub spare : ℕ
 
+-- whether two nodes are the same
 abbrev pub same_node : Node → Node → Bool
 same_node (Input i) (Input j) = nat_eq i j
 same_node Never Never = true

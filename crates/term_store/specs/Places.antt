@@ -7,18 +7,14 @@ use Rattle.term_store.specs.Nodes.{node_at}
 use Rattle.std.specs.List.{All}
 use Rattle.term_store.specs.Tree as t
 use Rattle.term_store.specs.Tree.{Tree}
-use Rattle.term_store.specs.Reach.{IsOperand}
-use Rattle.term_store.specs.Subterms.{AreNetworkTerms, is_among, all_subterms, join_count, delay_count, lt_count, longest_delay, register_bits}
+use Rattle.term_store.specs.Reach.{is_reached, IsOperand}
+use Rattle.term_store.specs.Subterms.{AreNetworkTerms, join_count, delay_count, lt_count, longest_delay, register_bits}
 use Rattle.term_store.specs.Trees.{tree, trees_at}
 
 -- the first n places, in order
 abbrev pub places : ℕ → List ℕ
 places zero = []
 places (suc n) = places n ++ n ∷ []
-
--- whether the term of the place is a subterm of a root's
-abbrev pub is_reached : List Node → List Term → ℕ → Bool
-is_reached nodes roots place = is_among (tree nodes place) (all_subterms (trees_at nodes roots))
 
 -- a mark for each place, which tells whether the roots reach it
 abbrev pub reach_marks : List Node → List Term → List Bool

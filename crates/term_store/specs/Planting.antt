@@ -38,6 +38,7 @@ AreReadyOutputs nodes k outputs = AllByRecursion (λ e. IsReady nodes k e.body) 
 abbrev pub operators : Formula → ℕ
 operators f = joins f + delays f
 
+-- the operators that are written in these equations
 abbrev pub all_operators : List Equation → ℕ
 all_operators equations = sum_by (λ e. operators e.body) equations
 

@@ -9,8 +9,12 @@ use Rattle.term_store.specs.Subterms.{is_among, all_subterms}
 use Rattle.term_store.specs.Trees.{tree, trees_at}
 
 -- the term of the place is a subterm of a root's
+abbrev pub is_reached : List Node → List Term → ℕ → Bool
+is_reached nodes roots place = is_among (tree nodes place) (all_subterms (trees_at nodes roots))
+
+-- the roots reach the place
 abbrev pub IsReached : List Node → List Term → ℕ → Type 0
-IsReached nodes roots place = IsTrue (is_among (tree nodes place) (all_subterms (trees_at nodes roots)))
+IsReached nodes roots place = IsTrue (is_reached nodes roots place)
 
 -- the place is an operand of the node
 abbrev pub IsOperand : ℕ → Node → Type 0

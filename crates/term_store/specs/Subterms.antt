@@ -12,9 +12,11 @@ subterms (Max a b) = Max a b ∷ subterms a ++ subterms b
 subterms (Lt a b) = Lt a b ∷ subterms a ++ subterms b
 subterms (Inc a c) = Inc a c ∷ subterms a
 
+-- the parts of all these terms, each as often as it is written
 abbrev pub all_subterms : List Tree → List Tree
 all_subterms trees = flat_map subterms trees
 
+-- whether two trees are the same
 abbrev pub same_tree : Tree → Tree → Bool
 same_tree Never Never = true
 same_tree (Input i) (Input j) = nat_eq i j
@@ -33,19 +35,23 @@ abbrev pub distinct : List Tree → List Tree
 distinct [] = []
 distinct (t ∷ trees) = if is_among t trees then distinct trees else t ∷ distinct trees
 
+-- the parts of all these terms, each once
 abbrev pub distinct_subterms : List Tree → List Tree
 distinct_subterms trees = distinct (all_subterms trees)
 
+-- whether the term is a min, a max or an lt
 abbrev pub is_join : Tree → Bool
 is_join (Min a b) = true
 is_join (Max a b) = true
 is_join (Lt a b) = true
 is_join t = false
 
+-- whether the term is an lt
 abbrev pub is_lt : Tree → Bool
 is_lt (Lt a b) = true
 is_lt t = false
 
+-- whether the term is an inc
 abbrev pub is_delay : Tree → Bool
 is_delay (Inc a c) = true
 is_delay t = false

@@ -2,13 +2,14 @@
 ghost use Rattle.std.specs.Prelude.{◌≡◌, ◌<◌, ℕ, List, length};
 ghost use Rattle.std.specs.List.{All};
 ghost use Rattle.net_lang.specs.Formula.{Net};
-ghost use Rattle.net_lang.specs.Rules.{IsNetwork};
+ghost use Rattle.net_lang.specs.Rules.{IsNetwork, names_of};
 ghost use Rattle.term_store.specs.declared.node.Term.{Term};
 ghost use Rattle.term_store.specs.declared.node.Node.{Node};
 ghost use Rattle.term_store.specs.Terms.{network_trees};
 ghost use Rattle.term_store.specs.Subterms.{AreNetworkTerms};
 ghost use Rattle.term_store.specs.Nodes.{IsNodes};
 ghost use Rattle.term_store.specs.Reach.{AreLeastClosed};
+ghost use Rattle.term_store.specs.Ports.{ArePorts};
 ghost use Rattle.term_store.specs.Laws.{HaveItsValues, AreApart};
 
 /// The terms of a network's outputs have the times that its space-time function gives. The law
@@ -20,6 +21,11 @@ pub fn terms_have_the_networks_values()
 /// The distinct subterms of a network's outputs keep the bounds of networks.
 pub fn network_terms_are_few()
     ensures law { (n : Net) → IsNetwork n → AreNetworkTerms (length n.inputs) (network_trees n) }
+{}
+
+/// The names of a network's inputs and outputs are such as an extracted network may have.
+pub fn network_names_are_ports()
+    ensures law { (n : Net) → IsNetwork n → ArePorts n.inputs (names_of n.outputs) }
 {}
 
 /// Two places of a store with the same term are the same place.

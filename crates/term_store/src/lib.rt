@@ -2,6 +2,7 @@
 #![tactic(auto)]
 
 mod build;
+mod extract;
 mod laws;
 mod node;
 mod place_laws;
@@ -11,11 +12,10 @@ mod store;
 mod tests;
 
 pub use laws::{
-    network_terms_are_few, no_two_places_alike, reached_places, terms_have_the_networks_values,
+    network_names_are_ports, network_terms_are_few, no_two_places_alike, reached_places,
+    terms_have_the_networks_values,
 };
 pub use node::{Node, StoreError, Term};
-pub use place_laws::{
-    networks_have_ports, places_count_subterms, reached_places_are_closed, terms_follow_nodes,
-};
+pub use place_laws::{places_count_subterms, reached_places_are_closed, terms_follow_nodes};
 pub use reach::reached;
 pub use store::Store;

@@ -1,14 +1,11 @@
-//! Laws of the places that roots reach, and of names.
+//! Laws of the places that roots reach.
 ghost use Rattle.std.specs.Prelude.{◌≡◌, ◌<◌, ℕ, List, length};
 ghost use Rattle.std.specs.List.{All};
-ghost use Rattle.net_lang.specs.Formula.{Net};
-ghost use Rattle.net_lang.specs.Rules.{IsNetwork, names_of};
 ghost use Rattle.term_store.specs.declared.node.Term.{Term};
 ghost use Rattle.term_store.specs.declared.node.Node.{Node};
 ghost use Rattle.term_store.specs.Nodes.{node_at, IsNodes};
 ghost use Rattle.term_store.specs.Trees.{tree};
 ghost use Rattle.term_store.specs.Places.{reach_marks, CountsAreRight, MarksAreClosed, tree_by_places};
-ghost use Rattle.term_store.specs.Ports.{ArePorts};
 
 /// The places that roots reach are the distinct subterms of their terms, each once: so what is counted over the one is
 /// what is counted over the other.
@@ -27,9 +24,4 @@ pub fn reached_places_are_closed()
 pub fn terms_follow_nodes()
     ensures { (nodes : List Node) (place : ℕ) → IsNodes nodes → place < length nodes →
         tree nodes place ≡ tree_by_places nodes (node_at nodes place) }
-{}
-
-/// The inputs and outputs of every network are named as a network may name them.
-pub fn networks_have_ports()
-    ensures { (n : Net) → IsNetwork n → ArePorts n.inputs (names_of n.outputs) }
 {}

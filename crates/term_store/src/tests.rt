@@ -1,7 +1,12 @@
+ghost use Rattle.std.specs.Prelude.{◌≡◌, IfOk};
+ghost use Rattle.net_lang.specs.Rules.{names_of};
+
+use crate::laws::{network_names_are_ports, network_terms_are_few};
 use crate::node::{Node, StoreError, Term};
 use crate::reach::reached;
 use crate::store::Store;
-use net_lang::{Network, read_network};
+use net_lang::{Name, Network, print_network, read_network};
+use rl_time::NoMemory;
 use std::alloc::Global;
 use std::process::Abort;
 use std::test::Fail;
@@ -76,5 +81,52 @@ fn outputs_share_their_terms(rt: HostRuntime) -> Result<(), Fail> {
     assert_eq!(rt; places.as_slice(), [Term(3), Term(3), Term(1)].as_slice());
     let marks = reached(rt.alloc(), &store, &places)?;
     assert_eq!(rt; marks.as_slice(), [true, true, false, true].as_slice());
+    Ok(())
+}
+
+// The names of a network's outputs, in order.
+fn output_names(alloc: Global, n: &Network) -> Result<Vec<Name>, NoMemory>
+    ensures names { IfOk result (λ names. names.items ≡ names_of n.now.outputs) }
+{
+    let mut names = Vec::new(alloc);
+    for output in n.outputs() {
+        names.push(Name::new(alloc, output.name().bytes())?)?;
+    }
+    Ok(names)
+}
+
+#[test]
+fn roots_are_written_out_as_lets(rt: HostRuntime) -> Result<(), Fail> {
+    let text = b"racenet 1
+input a b c
+let m = min(a, b)
+let unused = max(a, c)
+output y = lt(inc(m, 2), max(m, c))
+output z = inc(m, 0)
+output w = c
+output v = never
+";
+    let n = read_network(rt.alloc(), text)?;
+    let mut store = Store::new(rt.alloc())?;
+    let roots = store.build(rt.alloc(), &n)?;
+    let names = output_names(rt.alloc(), &n)?;
+    assert!(rt; names.len() == roots.len());
+    n.rules();
+    network_terms_are_few();
+    network_names_are_ports();
+    let written = store.extract(rt.alloc(), &roots, n.inputs(), &names)?;
+    let printed = print_network(rt.alloc(), &written)?;
+    let lets = b"racenet 1
+input a b c
+let _0 = min(a, b)
+let _1 = inc(_0, 2)
+let _2 = max(_0, c)
+let _3 = lt(_1, _2)
+output y = _3
+output z = _0
+output w = c
+output v = never
+";
+    assert_eq!(rt; printed.as_slice(), lets.as_slice());
     Ok(())
 }
