@@ -21,3 +21,4 @@ pub mod LetNames
 pub mod ExtractedIs
 pub mod ListedPlaces
 pub mod Counted
+pub mod PutNode

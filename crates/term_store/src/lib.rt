@@ -6,6 +6,7 @@ mod extract;
 mod laws;
 mod node;
 mod place_laws;
+mod putting;
 mod reach;
 mod store;
 #[cfg(test)]
@@ -16,6 +17,9 @@ pub use laws::{
     terms_have_the_networks_values,
 };
 pub use node::{Node, StoreError, Term};
-pub use place_laws::{places_count_subterms, reached_places_are_closed, terms_follow_nodes};
+pub use place_laws::{
+    places_count_subterms, planted_terms_stay, reached_places_are_closed, terms_follow_nodes,
+    terms_of_places_stay,
+};
 pub use reach::reached;
 pub use store::Store;
