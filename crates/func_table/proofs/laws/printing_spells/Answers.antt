@@ -1,0 +1,5 @@
+use Rattle.func_table.proofs.PrintedTable.{printed}
+use Rattle.func_table.proofs.laws.printing_spells.Goals as goal
+
+pub returns : goal.returns
+returns c = printed

@@ -1,0 +1,16 @@
+//! What the term of a table is.
+ghost use Rattle.std.specs.Prelude.{◌≡◌, List, length};
+ghost use Rattle.rl_time.specs.declared.time.Time.{Time};
+ghost use Rattle.func_table.specs.Table.{Table};
+ghost use Rattle.func_table.specs.Rules.{IsTable};
+ghost use Rattle.func_table.specs.Sound.{AreSound};
+ghost use Rattle.func_table.specs.Function.{table_function};
+ghost use Rattle.term_store.specs.Tree.{value};
+ghost use Rattle.term_store.specs.Subterms.{AreNetworkTerms};
+ghost use Rattle.minterm.specs.Minterms.{synthesised};
+
+/// The term of a table with sound rows has the table's value, at one time for each input.
+pub fn the_term_has_the_tables_values()
+    ensures { (t : Table) (x : List Time) → IsTable t → AreSound t.rows → length x ≡ length t.inputs →
+        value x (synthesised t) ≡ table_function t.rows x }
+{}
