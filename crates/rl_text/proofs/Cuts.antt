@@ -19,7 +19,7 @@ use Rattle.rl_text.proofs.Fronts.{front_is_longest, longest_is_front, nothing_st
 pub record Stops (s : Style) (text : List ℕ) : Type 0 where
   pub nothing : (p : Piece) → Begins s p text → ⊥
 
-same_piece : (s : Style) (p q : Piece) (text : List ℕ) → IsLongest s p text → IsLongest s q text → p ≡ q
+pub same_piece : (s : Style) (p q : Piece) (text : List ℕ) → IsLongest s p text → IsLongest s q text → p ≡ q
 same_piece s p q text l m =
     let e : Some (p.kind, length p.bytes) ≡ Some (q.kind, length q.bytes) = sym (longest_is_front s p text l) ∙ longest_is_front s q text m in
     let k = same_kind p.kind q.kind (length p.bytes) (length q.bytes) e in
@@ -29,10 +29,10 @@ same_piece s p q text l m =
     λ i. record { kind = k i; bytes = b i }
 
 -- the text behind the first of some pieces
-behind_first : (p : Piece) (ps : List Piece) (after : List ℕ) → joined (p ∷ ps) ++ after ≡ p.bytes ++ (joined ps ++ after)
+pub behind_first : (p : Piece) (ps : List Piece) (after : List ℕ) → joined (p ∷ ps) ++ after ≡ p.bytes ++ (joined ps ++ after)
 behind_first p ps after = append_assoc p.bytes (joined ps) after
 
-begins_so : (s : Style) (p : Piece) (ps : List Piece) (a text : List ℕ) → IsLongest s p (joined (p ∷ ps) ++ a) → text ≡ joined (p ∷ ps) ++ a → Begins s p text
+pub begins_so : (s : Style) (p : Piece) (ps : List Piece) (a text : List ℕ) → IsLongest s p (joined (p ∷ ps) ++ a) → text ≡ joined (p ∷ ps) ++ a → Begins s p text
 begins_so s p ps a text l e = record { piece = l.begins.piece; after = l.begins.after; split = e ∙ l.begins.split }
 
 pub same_pieces : (s : Style) (ps qs : List Piece) (a b : List ℕ) → AreLongest s ps a → AreLongest s qs b → Stops s a → Stops s b → joined ps ++ a ≡ joined qs ++ b → ps ≡ qs
@@ -90,10 +90,10 @@ pub record IsRead (s : Style) (text rest : List ℕ) (at line : ℕ) (tokens : L
 pub starts : (s : Style) (text : List ℕ) (tokens : List Token) → tokens ≡ [] → IsRead s text text 0 1 tokens
 starts s text tokens e = record { pieces = []; split = refl; longest = tt; place = refl; number = refl; listed = e }
 
-joined_more : (ps : List Piece) (p : Piece) → joined (ps ++ p ∷ []) ≡ joined ps ++ p.bytes
+pub joined_more : (ps : List Piece) (p : Piece) → joined (ps ++ p ∷ []) ≡ joined ps ++ p.bytes
 joined_more ps p = flat_map-append (λ (q : Piece). q.bytes) ps (p ∷ []) ∙ ap (λ (bytes : List ℕ). joined ps ++ bytes) (append-nil p.bytes)
 
-longest_more : (s : Style) (ps : List Piece) (p : Piece) (after : List ℕ) → AreLongest s ps (p.bytes ++ after) → IsLongest s p (p.bytes ++ after) → AreLongest s (ps ++ p ∷ []) after
+pub longest_more : (s : Style) (ps : List Piece) (p : Piece) (after : List ℕ) → AreLongest s ps (p.bytes ++ after) → IsLongest s p (p.bytes ++ after) → AreLongest s (ps ++ p ∷ []) after
 longest_more s [] p after l m = (rw append-nil m, tt)
 longest_more s (q ∷ ps) p after l m =
     let e : joined (q ∷ ps) ++ (p.bytes ++ after) ≡ joined (q ∷ (ps ++ p ∷ [])) ++ after =

@@ -5,3 +5,4 @@ pub mod Fronts
 pub mod Cuts
 pub mod Spans
 pub mod Parts
+pub mod Firsts

@@ -5,3 +5,4 @@ pub mod Lines
 pub mod Lexemes
 pub mod Front
 pub mod Words
+pub mod First

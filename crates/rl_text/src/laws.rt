@@ -6,6 +6,8 @@ ghost use Rattle.rl_text.specs.declared.token.Token.{Token};
 ghost use Rattle.rl_text.specs.Pieces.{IsLongest};
 ghost use Rattle.rl_text.specs.Tokens.{AreTokens, IsBad};
 ghost use Rattle.rl_text.specs.Front.{front};
+ghost use Rattle.rl_text.specs.Lines.{Word};
+ghost use Rattle.rl_text.specs.First.{BeginsWith};
 
 /// The piece that is computed at the front of a text is the longest that the text can begin with.
 pub fn front_is_longest()
@@ -25,4 +27,9 @@ pub fn one_bad_place()
 /// No text has both tokens and a place at which nothing stands.
 pub fn tokens_or_bad_place()
     ensures { (s : Style) (text : List ℕ) (ts : List Token) (p : ℕ) → AreTokens s text ts → IsBad s text p → ⊥ }
+{}
+
+/// A text begins with at most one word.
+pub fn one_first_word()
+    ensures { (s : Style) (text : List ℕ) (v w : Word) → BeginsWith s text v → BeginsWith s text w → v ≡ w }
 {}

@@ -3,6 +3,7 @@
 
 mod bytes;
 mod cut;
+mod first;
 mod front;
 mod laws;
 mod lexer;
@@ -13,7 +14,10 @@ mod verilog;
 mod words;
 
 pub use cut::{lexemes, line_at, lines};
-pub use laws::{front_is_longest, one_bad_place, one_list_of_tokens, tokens_or_bad_place};
+pub use first::first_word;
+pub use laws::{
+    front_is_longest, one_bad_place, one_first_word, one_list_of_tokens, tokens_or_bad_place,
+};
 pub use lexer::lex;
 pub use name::{Name, is_name};
 pub use token::{Kind, LexError, Style, Token};

@@ -1,6 +1,6 @@
 ghost use Rattle.std.specs.Prelude.{◌≤◌, length};
 
-use crate::{Kind, LexError, Style, Token, is_name, lex, lexemes, line_at, lines};
+use crate::{Kind, LexError, Style, Token, first_word, is_name, lex, lexemes, line_at, lines};
 use std::alloc::Global;
 use std::process::Abort;
 use std::test::Fail;
@@ -229,4 +229,22 @@ fn names_have_no_dollar(rt: HostRuntime) {
     assert!(rt; !is_name(b""));
     assert!(rt; !is_name(b"1a"));
     assert!(rt; !is_name(b"a$1"));
+}
+
+#[test]
+fn a_text_begins_with_its_first_word(rt: HostRuntime) {
+    let cases: [(&[u8], &[u8]); 7] = [
+        (b"racetable 1", b"racetable"),
+        (b"# a table\n\n  racetable", b"racetable"),
+        (b"racetable? 1", b"racetable"),
+        (b"? racetable", b""),
+        (b"\n\t# nothing", b""),
+        (b"", b""),
+        (b"12 x", b"12"),
+    ];
+    for (text, word) in cases {
+        assert!(rt; text.len() <= 67108864);
+        let found = first_word(text, Style::Race).map(|w| w.bytes).unwrap_or(b"".as_slice());
+        assert_eq!(rt; found, word);
+    }
 }
