@@ -65,10 +65,10 @@ numbers_are front (a ∷ xs) (None ∷ es) y l =
     ∙ (ap (λ k. map (value ((front ++ a ∷ []) ++ xs)) (number_terms y k es)) (sym (one_longer front a)) ∙ numbers_are (front ++ a ∷ []) xs es y (omega (arith, l)))
 numbers_are front (a ∷ xs) (Some e ∷ es) y l =
     let first : value (front ++ a ∷ xs) (delayed (tree.Input (length front)) (y - e)) ≡ time_inc a (y - e) =
-        delayed_time (front ++ a ∷ xs) (tree.Input (length front)) (y - e) (nat_eq (y - e) 0) refl ∙ ap (λ t. time_inc t (y - e)) (time_there front xs a) in
+    delayed_time (front ++ a ∷ xs) (tree.Input (length front)) (y - e) (nat_eq (y - e) 0) refl ∙ ap (λ t. time_inc t (y - e)) (time_there front xs a) in
     let rest : map (value (front ++ a ∷ xs)) (number_terms y (suc (length front)) es) ≡ number_times y es xs =
-        ap (λ z. map (value z) (number_terms y (suc (length front)) es)) (sym (move front xs a))
-        ∙ (ap (λ k. map (value ((front ++ a ∷ []) ++ xs)) (number_terms y k es)) (sym (one_longer front a)) ∙ numbers_are (front ++ a ∷ []) xs es y (omega (arith, l))) in
+    ap (λ z. map (value z) (number_terms y (suc (length front)) es)) (sym (move front xs a))
+    ∙ (ap (λ k. map (value ((front ++ a ∷ []) ++ xs)) (number_terms y k es)) (sym (one_longer front a)) ∙ numbers_are (front ++ a ∷ []) xs es y (omega (arith, l))) in
     ap (λ t. t ∷ map (value (front ++ a ∷ xs)) (number_terms y (suc (length front)) es)) first ∙ ap (λ ts. time_inc a (y - e) ∷ ts) rest
 
 pub dashes_are : (front xs : List Time) (es : List (Option ℕ)) → length es ≡ length xs → map (value (front ++ xs)) (dash_terms (length front) es) ≡ dash_times es xs
@@ -80,8 +80,8 @@ dashes_are front (a ∷ xs) (Some e ∷ es) l =
     ∙ (ap (λ k. map (value ((front ++ a ∷ []) ++ xs)) (dash_terms k es)) (sym (one_longer front a)) ∙ dashes_are (front ++ a ∷ []) xs es (omega (arith, l)))
 dashes_are front (a ∷ xs) (None ∷ es) l =
     let rest : map (value (front ++ a ∷ xs)) (dash_terms (suc (length front)) es) ≡ dash_times es xs =
-        ap (λ z. map (value z) (dash_terms (suc (length front)) es)) (sym (move front xs a))
-        ∙ (ap (λ k. map (value ((front ++ a ∷ []) ++ xs)) (dash_terms k es)) (sym (one_longer front a)) ∙ dashes_are (front ++ a ∷ []) xs es (omega (arith, l))) in
+    ap (λ z. map (value z) (dash_terms (suc (length front)) es)) (sym (move front xs a))
+    ∙ (ap (λ k. map (value ((front ++ a ∷ []) ++ xs)) (dash_terms k es)) (sym (one_longer front a)) ∙ dashes_are (front ++ a ∷ []) xs es (omega (arith, l))) in
     ap (λ t. t ∷ map (value (front ++ a ∷ xs)) (dash_terms (suc (length front)) es)) (time_there front xs a) ∙ ap (λ ts. a ∷ ts) rest
 
 pub joined_min : (x : List Time) (t : Tree) (us : List Tree) → value x (joined tree.Min t us) ≡ fold time_min (value x t) (map (value x) us)
@@ -145,9 +145,9 @@ lt_gives Never b v h = absurd (cc)
 lt_gives (At n) Never v h = (h, tt)
 lt_gives (At n) (At k) v h = go (nat_lt n k) refl h
   where
-  go : (c : Bool) → nat_lt n k ≡ c → (if c then At n else Never) ≡ At v → (At n ≡ At v) × (v < k)
-  go true e f = let same : n ≡ v = cc in (f, let less : n < k = grind (arith, nat_tests) in omega (arith, same, less))
-  go false e f = absurd (cc)
+    go : (c : Bool) → nat_lt n k ≡ c → (if c then At n else Never) ≡ At v → (At n ≡ At v) × (v < k)
+    go true e f = let same : n ≡ v = cc in (f, let less : n < k = grind (arith, nat_tests) in omega (arith, same, less))
+    go false e f = absurd (cc)
 
 lt_later : (v : ℕ) (b : Time) → IsLater v b → time_lt (At v) b ≡ At v
 lt_later v Never h = refl
@@ -197,10 +197,10 @@ min_never : (a : Time) (ts : List Time) → fold time_min a ts ≡ Never → a �
 min_never a [] h = h
 min_never a (b ∷ ts) h = left a b (min_never (time_min a b) ts h)
   where
-  left : (p q : Time) → time_min p q ≡ Never → p ≡ Never
-  left (At n) (At k) e = absurd (cc)
-  left (At n) Never e = absurd (cc)
-  left Never q e = refl
+    left : (p q : Time) → time_min p q ≡ Never → p ≡ Never
+    left (At n) (At k) e = absurd (cc)
+    left (At n) Never e = absurd (cc)
+    left Never q e = refl
 
 between : (v k : ℕ) (a : Time) → v ≤ k → UpTo v a → Down k a → a ≡ At v
 between v k (At u) le up down = let e : u ≡ v = omega (arith, le, up, down) in ap At e
@@ -215,26 +215,29 @@ together_to [] v h = absurd (cc)
 together_to (a ∷ []) v h = (λ (e : a ∷ [] ≡ []). absurd (cc), (h, tt))
 together_to (a ∷ b ∷ ts) v h = (λ (e : a ∷ b ∷ ts ≡ []). absurd (cc), go (fold time_min a (b ∷ ts)) refl)
   where
-  parts : (fold time_max a (b ∷ ts) ≡ At v) × IsLater v (time_inc (fold time_min a (b ∷ ts)) 1)
-  parts = lt_gives (fold time_max a (b ∷ ts)) (time_inc (fold time_min a (b ∷ ts)) 1) v h
-  up : UpTo v a × AllUpTo v (b ∷ ts)
-  up = max_up a (b ∷ ts) v parts.0
-  no_time : (c : Time) → UpTo v c → c ≡ Never → ⊥
-  no_time (At n) u e = absurd (cc)
-  no_time Never u e = u
-  go : (m : Time) → fold time_min a (b ∷ ts) ≡ m → AllAt v (a ∷ b ∷ ts)
-  go (At k) e =
-      let down = min_down a (b ∷ ts) k e in
-      let late : v < k + 1 = subst (λ z. IsLater v (time_inc z 1)) e parts.1 in
-      all_between v k (a ∷ b ∷ ts) (omega (arith, late)) up down
-  go Never e = absurd (no_time a up.0 (min_never a (b ∷ ts) e))
+    parts : (fold time_max a (b ∷ ts) ≡ At v) × IsLater v (time_inc (fold time_min a (b ∷ ts)) 1)
+    parts = lt_gives (fold time_max a (b ∷ ts)) (time_inc (fold time_min a (b ∷ ts)) 1) v h
+
+    up : UpTo v a × AllUpTo v (b ∷ ts)
+    up = max_up a (b ∷ ts) v parts.0
+
+    no_time : (c : Time) → UpTo v c → c ≡ Never → ⊥
+    no_time (At n) u e = absurd (cc)
+    no_time Never u e = u
+
+    go : (m : Time) → fold time_min a (b ∷ ts) ≡ m → AllAt v (a ∷ b ∷ ts)
+    go (At k) e =
+        let down = min_down a (b ∷ ts) k e in
+        let late : v < k + 1 = subst (λ z. IsLater v (time_inc z 1)) e parts.1 in
+        all_between v k (a ∷ b ∷ ts) (omega (arith, late)) up down
+    go Never e = absurd (no_time a up.0 (min_never a (b ∷ ts) e))
 
 later_min : (v : ℕ) (a b : Time) → IsLater v a → IsLater v b → IsLater v (time_min a b)
 later_min v (At n) (At k) h g = go (cases_lt n k)
   where
-  go : (n < k) ⊎ (k ≤ n) → v < min n k
-  go (inl l) = let e : min n k ≡ n = min-eq_left (omega (arith, l)) in omega (arith, e, h)
-  go (inr l) = let e : min n k ≡ k = min-eq_right l in omega (arith, e, g)
+    go : (n < k) ⊎ (k ≤ n) → v < min n k
+    go (inl l) = let e : min n k ≡ n = min-eq_left (omega (arith, l)) in omega (arith, e, h)
+    go (inr l) = let e : min n k ≡ k = min-eq_right l in omega (arith, e, g)
 later_min v (At n) Never h g = h
 later_min v Never b h g = g
 
@@ -287,16 +290,16 @@ fits_from m y (Some e ∷ es) (a ∷ xs) d h =
     let p = and_parts (entry_matches y (Some e) (taken_off m a)) (entries_match y es (map (taken_off m) xs)) h in
     (at a d.0 p.0, fits_from m y es xs d.1 p.1)
   where
-  at : (a : Time) → Down m a → entry_matches y (Some e) (taken_off m a) ≡ true → a ≡ At (m + e)
-  at (At u) down g = let same : u - m ≡ e = grind (arith, nat_tests) in let k : u ≡ m + e = omega (arith, same, down) in ap At k
-  at Never down g = absurd (cc)
+    at : (a : Time) → Down m a → entry_matches y (Some e) (taken_off m a) ≡ true → a ≡ At (m + e)
+    at (At u) down g = let same : u - m ≡ e = grind (arith, nat_tests) in let k : u ≡ m + e = omega (arith, same, down) in ap At k
+    at Never down g = absurd (cc)
 fits_from m y (None ∷ es) (a ∷ xs) d h =
     let p = and_parts (entry_matches y None (taken_off m a)) (entries_match y es (map (taken_off m) xs)) h in
     (later a d.0 p.0, fits_from m y es xs d.1 p.1)
   where
-  later : (a : Time) → Down m a → entry_matches y None (taken_off m a) ≡ true → IsLater (m + y) a
-  later (At u) down g = let less : y < u - m = grind (arith, nat_tests) in omega (arith, less, down)
-  later Never down g = tt
+    later : (a : Time) → Down m a → entry_matches y None (taken_off m a) ≡ true → IsLater (m + y) a
+    later (At u) down g = let less : y < u - m = grind (arith, nat_tests) in omega (arith, less, down)
+    later Never down g = tt
 
 fits_to : (m y : ℕ) (es : List (Option ℕ)) (xs : List Time) → Fits m y es xs → entries_match y es (map (taken_off m) xs) ≡ true
 fits_to m y [] [] f = refl
@@ -305,13 +308,13 @@ fits_to m y (None ∷ es) [] f = absurd f
 fits_to m y (Some e ∷ es) [] f = absurd f
 fits_to m y (Some e ∷ es) (a ∷ xs) f = and_from _ _ (ap (λ z. entry_matches y (Some e) (taken_off m z)) f.0 ∙ same) (fits_to m y es xs f.1)
   where
-  same : (m + e - m == e) ≡ true
-  same = grind (arith, nat_tests)
+    same : (m + e - m == e) ≡ true
+    same = grind (arith, nat_tests)
 fits_to m y (None ∷ es) (a ∷ xs) f = and_from _ _ (later a f.0) (fits_to m y es xs f.1)
   where
-  later : (a : Time) → IsLater (m + y) a → entry_matches y None (taken_off m a) ≡ true
-  later (At u) g = grind (arith, nat_tests)
-  later Never g = refl
+    later : (a : Time) → IsLater (m + y) a → entry_matches y None (taken_off m a) ≡ true
+    later (At u) g = grind (arith, nat_tests)
+    later Never g = refl
 
 abbrev AllUpToRow : ℕ → List (Option ℕ) → Type 0
 AllUpToRow y es = AllByRecursion (IsUpTo y) es
@@ -349,9 +352,9 @@ fits_of m y v (Some e ∷ es) [] s l u f g = absurd (omega (arith, l))
 fits_of m y v (None ∷ es) (a ∷ xs) s l u f g = (subst (λ k. IsLater k a) s g.0, fits_of m y v es xs s (omega (arith, l)) u.1 f g.1)
 fits_of m y v (Some e ∷ es) (a ∷ xs) s l u f g = (at a f.0, fits_of m y v es xs s (omega (arith, l)) u.1 f.1 g)
   where
-  at : (a : Time) → time_inc a (y - e) ≡ At v → a ≡ At (m + e)
-  at (At n) h = let k : n + (y - e) ≡ v = cc in let i : n ≡ m + e = omega (arith, k, s, u.0) in ap At i
-  at Never h = absurd (cc)
+    at : (a : Time) → time_inc a (y - e) ≡ At v → a ≡ At (m + e)
+    at (At n) h = let k : n + (y - e) ≡ v = cc in let i : n ≡ m + e = omega (arith, k, s, u.0) in ap At i
+    at Never h = absurd (cc)
 
 -- an entry 0 comes by the output, so the time of all is no less
 zero_first : (y v : ℕ) (es : List (Option ℕ)) (xs : List Time) → length es ≡ length xs → list_any is_zero es ≡ true → AllAt v (number_times y es xs) → y ≤ v
@@ -361,19 +364,20 @@ zero_first y v (Some n ∷ es) [] l z f = absurd (omega (arith, l))
 zero_first y v (None ∷ es) (a ∷ xs) l z f = zero_first y v es xs (omega (arith, l)) z f
 zero_first y v (Some n ∷ es) (a ∷ xs) l z f = go (λ g. zero_first y v es xs (omega (arith, l)) g f.1) (n == 0) refl z
   where
-  at : (a : Time) → time_inc a (y - n) ≡ At v → n ≡ 0 → y ≤ v
-  at (At k) h e = let i : k + (y - n) ≡ v = cc in omega (arith, i, e)
-  at Never h e = absurd (cc)
-  go : (list_any is_zero es ≡ true → y ≤ v) → (b : Bool) → (n == 0) ≡ b → (b || list_any is_zero es) ≡ true → y ≤ v
-  go rest true e g = at a f.0 (grind (arith, nat_tests))
-  go rest false e g = rest g
+    at : (a : Time) → time_inc a (y - n) ≡ At v → n ≡ 0 → y ≤ v
+    at (At k) h e = let i : k + (y - n) ≡ v = cc in omega (arith, i, e)
+    at Never h e = absurd (cc)
+
+    go : (list_any is_zero es ≡ true → y ≤ v) → (b : Bool) → (n == 0) ≡ b → (b || list_any is_zero es) ≡ true → y ≤ v
+    go rest true e g = at a f.0 (grind (arith, nat_tests))
+    go rest false e g = rest g
 
 down_min : (m : ℕ) (a b : Time) → Down m a → Down m b → Down m (time_min a b)
 down_min m (At n) (At k) g h = go (cases_lt n k)
   where
-  go : (n < k) ⊎ (k ≤ n) → m ≤ min n k
-  go (inl l) = let e : min n k ≡ n = min-eq_left (omega (arith, l)) in omega (arith, e, g)
-  go (inr l) = let e : min n k ≡ k = min-eq_right l in omega (arith, e, h)
+    go : (n < k) ⊎ (k ≤ n) → m ≤ min n k
+    go (inl l) = let e : min n k ≡ n = min-eq_left (omega (arith, l)) in omega (arith, e, g)
+    go (inr l) = let e : min n k ≡ k = min-eq_right l in omega (arith, e, h)
 down_min m (At n) Never g h = g
 down_min m Never b g h = h
 
@@ -395,9 +399,9 @@ fits_down m y (None ∷ es) [] f = absurd f
 fits_down m y (Some e ∷ es) [] f = absurd f
 fits_down m y (None ∷ es) (a ∷ xs) f = down_min m a (least xs) (lower a f.0) (fits_down m y es xs f.1)
   where
-  lower : (a : Time) → IsLater (m + y) a → Down m a
-  lower (At n) g = omega (arith, g)
-  lower Never g = tt
+    lower : (a : Time) → IsLater (m + y) a → Down m a
+    lower (At n) g = omega (arith, g)
+    lower Never g = tt
 fits_down m y (Some e ∷ es) (a ∷ xs) f = down_min m a (least xs) (subst (Down m) (sym f.0) (omega arith)) (fits_down m y es xs f.1)
 
 -- and one comes at m, where some entry is 0
@@ -408,9 +412,9 @@ fits_up m y (Some e ∷ es) [] z f = absurd f
 fits_up m y (None ∷ es) (a ∷ xs) z f = up_right m a (least xs) (fits_up m y es xs z f.1)
 fits_up m y (Some e ∷ es) (a ∷ xs) z f = go (λ g. fits_up m y es xs g f.1) (e == 0) refl z
   where
-  go : (list_any is_zero es ≡ true → UpTo m (least xs)) → (b : Bool) → (e == 0) ≡ b → (b || list_any is_zero es) ≡ true → UpTo m (time_min a (least xs))
-  go rest true h g = let zero_entry : e ≡ 0 = grind (arith, nat_tests) in up_left m a (least xs) (subst (UpTo m) (sym f.0) (omega (arith, zero_entry)))
-  go rest false h g = up_right m a (least xs) (rest g)
+    go : (list_any is_zero es ≡ true → UpTo m (least xs)) → (b : Bool) → (e == 0) ≡ b → (b || list_any is_zero es) ≡ true → UpTo m (time_min a (least xs))
+    go rest true h g = let zero_entry : e ≡ 0 = grind (arith, nat_tests) in up_left m a (least xs) (subst (UpTo m) (sym f.0) (omega (arith, zero_entry)))
+    go rest false h g = up_right m a (least xs) (rest g)
 
 fits_least : (m y : ℕ) (es : List (Option ℕ)) (xs : List Time) → list_any is_zero es ≡ true → Fits m y es xs → least xs ≡ At m
 fits_least m y es xs z f = between m m (least xs) (omega arith) (fits_up m y es xs z f) (fits_down m y es xs f)
@@ -440,28 +444,31 @@ minterm_at m y es xs l u z f =
 pub row_is : (y : ℕ) (es : List (Option ℕ)) (xs : List Time) → length es ≡ length xs → AllUpToRow y es → list_any is_zero es ≡ true → minterm_time y es xs ≡ matched_time y es xs (least xs)
 row_is y es xs l u z = go (least xs) refl (minterm_time y es xs) refl
   where
-  fits : (v : ℕ) → minterm_time y es xs ≡ At v → Fits (v - y) y es xs × (y ≤ v)
-  fits v h = minterm_fits y v es xs l u z h
-  matched : (m v : ℕ) (b : Bool) → least xs ≡ At m → minterm_time y es xs ≡ At v → entries_match y es (map (taken_off m) xs) ≡ b → At v ≡ (if b then At (m + y) else Never)
-  matched m v true e h g =
-      let f = fits v h in
-      let same : At m ≡ At (v - y) = sym e ∙ fits_least (v - y) y es xs z f.0 in
-      let k : m ≡ v - y = cc in
-      let w : v ≡ m + y = omega (arith, k, f.1) in
-      ap At w
-  matched m v false e h g =
-      let f = fits v h in
-      let same : At m ≡ At (v - y) = sym e ∙ fits_least (v - y) y es xs z f.0 in
-      let k : m ≡ v - y = cc in
-      let yes_it_does : entries_match y es (map (taken_off m) xs) ≡ true = ap (λ i. entries_match y es (map (taken_off i) xs)) k ∙ fits_to (v - y) y es xs f.0 in
-      absurd (true≢false (sym yes_it_does ∙ g))
-  never : (m : ℕ) (b : Bool) → least xs ≡ At m → minterm_time y es xs ≡ Never → entries_match y es (map (taken_off m) xs) ≡ b → Never ≡ (if b then At (m + y) else Never)
-  never m true e h g =
-      let f = fits_from m y es xs (least_down xs m (subst (Down m) (sym e) (omega arith))) g in
-      sym h ∙ minterm_at m y es xs l u z f
-  never m false e h g = refl
-  go : (t : Time) → least xs ≡ t → (r : Time) → minterm_time y es xs ≡ r → minterm_time y es xs ≡ matched_time y es xs (least xs)
-  go (At m) e (At v) h = h ∙ (matched m v (entries_match y es (map (taken_off m) xs)) e h refl ∙ ap (matched_time y es xs) (sym e))
-  go (At m) e Never h = h ∙ (never m (entries_match y es (map (taken_off m) xs)) e h refl ∙ ap (matched_time y es xs) (sym e))
-  go Never e (At v) h = let f = fits v h in absurd (let same : Never ≡ At (v - y) = sym e ∙ fits_least (v - y) y es xs z f.0 in cc)
-  go Never e Never h = h ∙ ap (matched_time y es xs) (sym e)
+    fits : (v : ℕ) → minterm_time y es xs ≡ At v → Fits (v - y) y es xs × (y ≤ v)
+    fits v h = minterm_fits y v es xs l u z h
+
+    matched : (m v : ℕ) (b : Bool) → least xs ≡ At m → minterm_time y es xs ≡ At v → entries_match y es (map (taken_off m) xs) ≡ b → At v ≡ (if b then At (m + y) else Never)
+    matched m v true e h g =
+        let f = fits v h in
+        let same : At m ≡ At (v - y) = sym e ∙ fits_least (v - y) y es xs z f.0 in
+        let k : m ≡ v - y = cc in
+        let w : v ≡ m + y = omega (arith, k, f.1) in
+        ap At w
+    matched m v false e h g =
+        let f = fits v h in
+        let same : At m ≡ At (v - y) = sym e ∙ fits_least (v - y) y es xs z f.0 in
+        let k : m ≡ v - y = cc in
+        let yes_it_does : entries_match y es (map (taken_off m) xs) ≡ true = ap (λ i. entries_match y es (map (taken_off i) xs)) k ∙ fits_to (v - y) y es xs f.0 in
+        absurd (true≢false (sym yes_it_does ∙ g))
+
+    never : (m : ℕ) (b : Bool) → least xs ≡ At m → minterm_time y es xs ≡ Never → entries_match y es (map (taken_off m) xs) ≡ b → Never ≡ (if b then At (m + y) else Never)
+    never m true e h g =
+        let f = fits_from m y es xs (least_down xs m (subst (Down m) (sym e) (omega arith))) g in
+        sym h ∙ minterm_at m y es xs l u z f
+    never m false e h g = refl
+
+    go : (t : Time) → least xs ≡ t → (r : Time) → minterm_time y es xs ≡ r → minterm_time y es xs ≡ matched_time y es xs (least xs)
+    go (At m) e (At v) h = h ∙ (matched m v (entries_match y es (map (taken_off m) xs)) e h refl ∙ ap (matched_time y es xs) (sym e))
+    go (At m) e Never h = h ∙ (never m (entries_match y es (map (taken_off m) xs)) e h refl ∙ ap (matched_time y es xs) (sym e))
+    go Never e (At v) h = let f = fits v h in absurd (let same : Never ≡ At (v - y) = sym e ∙ fits_least (v - y) y es xs z f.0 in cc)
+    go Never e Never h = h ∙ ap (matched_time y es xs) (sym e)

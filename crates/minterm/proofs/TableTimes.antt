@@ -55,21 +55,21 @@ module _ (x : List Time) (m : ℕ) (is_least : least x ≡ At m) where
   none_left a [] none = refl
   none_left a (r ∷ rows) none = go (entries_match r.out r.entries (map (taken_off m) x)) refl (none_left a rows (λ j s e h. none (suc j) s e h))
     where
-    go : (b : Bool) → entries_match r.out r.entries (map (taken_off m) x) ≡ b → fold time_min a (map (row_time x) rows) ≡ a → fold time_min a (map (row_time x) (r ∷ rows)) ≡ a
-    go true e rest = absurd (none 0 r refl (matched r e))
-    go false e rest = ap (λ t. fold time_min (time_min a t) (map (row_time x) rows)) (time_of r false e) ∙ (ap (λ t. fold time_min t (map (row_time x) rows)) (min_after a) ∙ rest)
+      go : (b : Bool) → entries_match r.out r.entries (map (taken_off m) x) ≡ b → fold time_min a (map (row_time x) rows) ≡ a → fold time_min a (map (row_time x) (r ∷ rows)) ≡ a
+      go true e rest = absurd (none 0 r refl (matched r e))
+      go false e rest = ap (λ t. fold time_min (time_min a t) (map (row_time x) rows)) (time_of r false e) ∙ (ap (λ t. fold time_min t (map (row_time x) rows)) (min_after a) ∙ rest)
 
   pub first_is : (rows : List Row) → Apart x rows → fold time_min Never (map (row_time x) rows) ≡ value_at rows x m
   first_is [] apart = refl
   first_is (r ∷ rows) apart = go (entries_match r.out r.entries (map (taken_off m) x)) refl (first_is rows (λ i j a b lt e f. apart (suc i) (suc j) a b (omega (arith, lt)) e f))
     where
-    go : (b : Bool) → entries_match r.out r.entries (map (taken_off m) x) ≡ b → fold time_min Never (map (row_time x) rows) ≡ value_at rows x m →
-        fold time_min (row_time x r) (map (row_time x) rows) ≡ (if matches r (map (taken_off m) x) then At (m + r.out) else value_at rows x m)
-    go true e rest =
-        ap (λ t. fold time_min t (map (row_time x) rows)) (time_of r true e)
-        ∙ (none_left (At (m + r.out)) rows (λ j s f h. apart 0 (suc j) r s (omega arith) refl f (matched r e) h) ∙ ap (λ (b : Bool). if b then At (m + r.out) else value_at rows x m) (sym e))
-    go false e rest =
-        ap (λ t. fold time_min t (map (row_time x) rows)) (time_of r false e) ∙ (rest ∙ ap (λ (b : Bool). if b then At (m + r.out) else value_at rows x m) (sym e))
+      go : (b : Bool) → entries_match r.out r.entries (map (taken_off m) x) ≡ b → fold time_min Never (map (row_time x) rows) ≡ value_at rows x m →
+          fold time_min (row_time x r) (map (row_time x) rows) ≡ (if matches r (map (taken_off m) x) then At (m + r.out) else value_at rows x m)
+      go true e rest =
+          ap (λ t. fold time_min t (map (row_time x) rows)) (time_of r true e)
+          ∙ (none_left (At (m + r.out)) rows (λ j s f h. apart 0 (suc j) r s (omega arith) refl f (matched r e) h) ∙ ap (λ (b : Bool). if b then At (m + r.out) else value_at rows x m) (sym e))
+      go false e rest =
+          ap (λ t. fold time_min t (map (row_time x) rows)) (time_of r false e) ∙ (rest ∙ ap (λ (b : Bool). if b then At (m + r.out) else value_at rows x m) (sym e))
 
 all_never : (x : List Time) (rows : List Row) → least x ≡ Never → fold time_min Never (map (row_time x) rows) ≡ Never
 all_never x [] e = refl
