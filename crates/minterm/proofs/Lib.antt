@@ -1,2 +1,10 @@
 pub mod RowTimes
 pub mod TableTimes
+pub mod Planted
+pub mod Rooms
+pub mod Joins
+pub mod Entries
+pub mod Rows
+pub mod FewTerms
+pub mod Sampled
+pub mod Ports

@@ -1,6 +1,6 @@
 -- The time of a row's minterm is that of the row where it matches, and else never.
-use Rattle.std.proofs.Common.{◌≡◌, ℕ, zero, suc, ◌+◌, ◌-◌, ◌≤◌, ◌<◌, Bool, true, false, List, [], ◌∷◌, ◌++◌, length, map, min, max, refl, ap, sym, ◌∙◌, subst, arith, Option, Some, None, append_assoc, length-append, inl, inr, true≢false}
-use Rattle.std.specs.Prelude.{◌&&◌, ◌||◌, ◌==◌, nat_lt, nat_eq, fold, if◌then◌else◌, IsTrue, ◌⊎◌}
+use Rattle.std.proofs.Common.{◌≡◌, ℕ, suc, ◌+◌, ◌-◌, ◌≤◌, ◌<◌, Bool, true, false, List, [], ◌∷◌, ◌++◌, length, map, min, max, refl, ap, sym, ◌∙◌, subst, arith, Option, Some, None, append_assoc, length-append, inl, inr, true≢false}
+use Rattle.std.specs.Prelude.{◌||◌, ◌==◌, nat_lt, nat_eq, fold, if◌then◌else◌, ◌⊎◌}
 use Rattle.std.specs.List.{list_any, AllByRecursion}
 use Rattle.std.proofs.Math.Nat.{max-eq_left, min-eq_left, min-eq_right, le-max_left, le-max_right, min-le_left, min-le_right}
 use Rattle.std.proofs.lemmas.Bool.{and_parts, and_from, cases_lt}

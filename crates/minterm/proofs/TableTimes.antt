@@ -1,7 +1,7 @@
 -- The time of a table's term is the table's.
-use Rattle.std.proofs.Common.{◌≡◌, ℕ, zero, suc, ◌+◌, ◌<◌, ◌≤◌, Bool, true, false, true≢false, List, [], ◌∷◌, length, map, refl, ap, sym, ◌∙◌, subst, arith, Option, Some, None}
+use Rattle.std.proofs.Common.{◌≡◌, ℕ, suc, ◌+◌, ◌<◌, Bool, true, false, List, [], ◌∷◌, length, map, refl, ap, sym, ◌∙◌, subst, arith, Some}
 use Rattle.std.specs.Prelude.{fold, if◌then◌else◌, slice_get, IsTrue}
-use Rattle.std.specs.List.{AllByRecursion, list_any}
+use Rattle.std.specs.List.{AllByRecursion}
 use Rattle.rl_time.specs.declared.time.Time.{Time}
 use Rattle.rl_time.specs.declared.time.Time.TheVariants.{At, Never}
 use Rattle.rl_time.specs.Time.{time_min}
@@ -9,9 +9,9 @@ use Rattle.term_store.specs.Tree.{Tree, value}
 use Rattle.func_table.specs.Table.{Row, Table}
 use Rattle.func_table.specs.Rules.{IsRow, IsTable}
 use Rattle.func_table.specs.Function.{least, taken_off, matches, entries_match, row_matches_at, IsMatched, value_at, value_from, table_function}
-use Rattle.func_table.specs.Sound.{is_zero, IsInOrder, Conflict, AreSound}
+use Rattle.func_table.specs.Sound.{IsInOrder, AreSound}
 use Rattle.minterm.specs.Minterms.{number_terms, dash_terms, together, minterm, earliest, synthesised}
-use Rattle.minterm.proofs.RowTimes.{numbers_are, dashes_are, together_is, before_is, joined_min, together_times, before_times, number_times, dash_times, matched_time, row_is}
+use Rattle.minterm.proofs.RowTimes.{numbers_are, dashes_are, together_is, before_is, joined_min, together_times, before_times, number_times, matched_time, row_is}
 
 abbrev row_time : List Time → Row → Time
 row_time x r = matched_time r.out r.entries x (least x)

@@ -1,1 +1,4 @@
 pub mod Minterms
+pub mod Room
+pub mod Steps
+pub mod Samples

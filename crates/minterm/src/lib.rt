@@ -1,4 +1,14 @@
 //! Synthesis of tables: the term that has the table's values, after Smith (Space-Time Algebra, ISCA 2018).
 #![tactic(auto)]
 
-pub mod laws;
+mod join;
+mod joining;
+mod laws;
+mod planting;
+mod row;
+mod synthesis;
+#[cfg(test)]
+mod tests;
+
+pub use laws::{table_names_are_ports, table_terms_are_few, the_term_has_the_tables_values};
+pub use synthesis::synth;

@@ -1,0 +1,11 @@
+pub mod Fitting
+pub mod Places
+pub mod Following
+pub mod Shifting
+pub mod Faulting
+pub mod Walking
+pub mod Order
+pub mod Lowering
+pub mod Once
+pub mod Tabled
+pub mod Causes

@@ -1,0 +1,19 @@
+//! What makes a table stand for a function of times, and the tables of networks.
+//!
+//! Causal and invariant functions are those of Smith, *Space-Time Algebra* (ISCA 2018).
+#![tactic(auto)]
+
+mod checking;
+mod fault;
+mod laws;
+mod tabulation;
+#[cfg(test)]
+mod tests;
+
+pub use checking::check_rows;
+pub use fault::{RowFault, TabError};
+pub use laws::{
+    conflict_by_places, one_row_fault, one_window_cause, sound_or_fault, tables_are_causal,
+    tables_are_invariant,
+};
+pub use tabulation::tabulate;

@@ -1,0 +1,5 @@
+use Rattle.minterm.proofs.FewTerms.{are_few, is_short}
+use Rattle.minterm.proofs.laws.table_terms_are_few.Goals as goal
+
+pub returns : goal.returns
+returns c = record { terms = are_few; short = is_short }

@@ -1,0 +1,22 @@
+use Rattle.std.proofs.Common.{◌≡◌, [], ◌∷◌, ap, subst, sym, ◌∙◌, length, map}
+use Rattle.term_store.specs.Tree.{value}
+use Rattle.term_store.specs.Trees.{tree, trees_at}
+use Rattle.term_store.specs.Subterms.{AreNetworkTerms}
+use Rattle.minterm.specs.Minterms.{minterm, earliest, synthesised}
+use Rattle.minterm.proofs.TableTimes.{table_is}
+use Rattle.minterm.proofs.FewTerms.{are_few}
+use Rattle.minterm.proofs.synthesis.synth.Goals.{After-put_earliest}
+use Rattle.minterm.proofs.synthesis.synth.Goals as goal
+
+term_is : (c : After-put_earliest) → tree c.put_earliest.new.store.nodes c.put_earliest.result.0 ≡ synthesised c.args.table.now
+term_is c =
+    c.put_earliest.ensures.planted.tree_is
+    ∙ (ap (λ ts. earliest (trees_at c.put_rows.new.store.nodes ts)) c.deref-2.ensures.value
+    ∙ (ap earliest c.put_rows.ensures.planted.trees_are ∙ ap (λ rows. earliest (map minterm rows)) c.rows-2.ensures))
+
+pub returns-clause-times : goal.returns-clause-times
+returns-clause-times c = λ x l. ap (value x) (term_is (goal.at.returns-clause-times c).After-put_earliest) ∙ table_is c.args.table.now x c.rules-2.ensures c.requires.sound l
+
+pub returns-clause-terms : goal.returns-clause-terms
+returns-clause-terms c =
+    subst (λ t. AreNetworkTerms (length c.args.table.now.inputs) (t ∷ [])) (sym (term_is (goal.at.returns-clause-terms c).After-put_earliest)) (are_few c.args.table.now c.rules-2.ensures)

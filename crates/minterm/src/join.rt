@@ -1,0 +1,6 @@
+/// How two terms are joined: the earlier of both, or the later.
+#[derive(Clone, Copy)]
+pub enum Join {
+    Min,
+    Max,
+}
