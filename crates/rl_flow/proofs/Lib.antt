@@ -3,3 +3,4 @@ pub mod Putting
 pub mod Judging
 pub mod Ending
 pub mod Asking
+pub mod Tabulated

@@ -14,6 +14,16 @@ use Rattle.verilog_text.specs.Meaning.{State, IsSettled, Follows, IsHistory, Has
 use Rattle.gate_lower.specs.Netlist.{Output, Netlist}
 use Rattle.gate_lower.specs.Rules.{output_names}
 use Rattle.gate_lower.specs.Timing.{line_time, TimeIsLevel, AreGatesOf}
+use Rattle.net_lang.specs.Formula.{Net}
+use Rattle.term_store.specs.Laws.{HaveItsValues}
+use Rattle.func_table.specs.Function.{table_function}
+use Rattle.func_table.specs.Rules.{IsTable}
+use Rattle.func_table.specs.Sound.{AreSound}
+use Rattle.func_table.specs.Table.{Table}
+use Rattle.minterm.specs.Minterms.{synthesised}
+use Rattle.rl_flow.specs.declared.source.Source.{Source}
+use Rattle.rl_flow.specs.declared.source.Source.TheVariants.{OfNetwork, OfTable}
+use Rattle.rl_flow.specs.Sources.{IsRuled, IsSound, inputs_of, terms_of, function_of}
 use Rattle.rl_flow.specs.Compiled.{Realises}
 
 -- each state of a history is settled
@@ -67,14 +77,14 @@ each_cycle values c (suc n) (s ∷ ss) e h =
     ∙ ap (λ z. levels_at values c ∷ z) (each_cycle values (suc c) n ss (omega arith) (λ i z y. let next : c + suc i ≡ suc c + i = omega arith in h (suc i) z y ∙ ap (levels_at values) next))
 
 pub realises : (ins outs : List (List ℕ)) (function : List Time → List Time) (trees : List Tree) (g : Netlist) (m : Circuit) → AreGatesOf ins outs trees g →
-    ((x : List Time) → map (value x) trees ≡ function x) → m.inputs ≡ g.inputs → m.outputs ≡ output_names g.outputs → TimeIsLevel g m → IsValid m →
+    ((x : List Time) → length x ≡ length ins → map (value x) trees ≡ function x) → m.inputs ≡ g.inputs → m.outputs ≡ output_names g.outputs → TimeIsLevel g m → IsValid m →
     HasNoRepeatedWire m → length m.wires ≡ join_count trees → circuit.register_bits m ≡ register_bits trees →
     ((m : Circuit) (us : List (List Bool)) → IsOrdered m → HasOneHistory m us) → Realises ins outs function trees m
 realises ins outs function trees g m gates values inputs outputs levels valid no_gate_twice wires bits law = record {
   inputs_are = inputs ∙ gates.inputs_are;
   outputs_are = outputs ∙ gates.outputs_are;
   one_history = λ x cycles. law m (levels_from x 0 cycles) valid.ordered;
-  levels = λ x cycles states h.
+  levels = λ x cycles states one_each h.
       let timing = gates.timed x in
       let f : Output → Time = λ o. line_time x timing.0 timing.1 o.line in
       let right : (i : ℕ) (s : State) → slice_get states i ≡ Some s → s.outs ≡ levels_at (map f g.outputs) (0 + i) = λ i s e.
@@ -83,8 +93,14 @@ realises ins outs function trees g m gates values inputs outputs levels valid no
       let same : 0 + i ≡ i = omega arith in
       each_place f i s.outs g.outputs count (levels x timing.0 timing.1 timing.2 cycles states h i s e).outs ∙ ap (levels_at (map f g.outputs)) (sym same) in
       each_cycle (map f g.outputs) 0 cycles states (history_length m (levels_from x 0 cycles) states h ∙ length_levels x 0 cycles) right
-      ∙ (ap (λ z. levels_from z 0 cycles) timing.3 ∙ ap (λ z. levels_from z 0 cycles) (values x));
+      ∙ (ap (λ z. levels_from z 0 cycles) timing.3 ∙ ap (λ z. levels_from z 0 cycles) (values x one_each));
   no_gate_twice = no_gate_twice;
   wires = wires;
   bits = bits;
 }
+
+-- the terms of a source have its values
+pub source_values : ((n : Net) → HaveItsValues n) → ((t : Table) (x : List Time) → IsTable t → AreSound t.rows → length x ≡ length t.inputs → value x (synthesised t) ≡ table_function t.rows x) →
+    (s : Source) → IsRuled s → IsSound s → (x : List Time) → length x ≡ length (inputs_of s) → map (value x) (terms_of s) ≡ function_of s x
+source_values nets tables (OfNetwork n) ruled sound x one_each = nets n x
+source_values nets tables (OfTable t) ruled sound x one_each = ap (λ (a : Time). a ∷ []) (tables t x ruled sound one_each)

@@ -1,8 +1,11 @@
 pub mod Status
 pub mod Words
 pub mod Task
+pub mod Request
 pub mod Sources
 pub mod Values
+pub mod Synthesised
+pub mod Windows
 pub mod Refusal
 pub mod Compiled
 pub mod Answers

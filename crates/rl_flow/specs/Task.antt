@@ -1,22 +1,52 @@
 -- What words ask for.
-use Rattle.std.specs.Prelude.{ℕ, List, map, Option, Some, None}
+use Rattle.std.specs.Prelude.{ℕ, ◌&&◌, if◌then◌else◌, List, [], ◌∷◌, map, codes, Option, Some, None}
+use Rattle.std.specs.Option.{option_map}
+use Rattle.std.specs.Str.{bytes_eq}
+use Rattle.std.specs.Str.Parse.{digits_value}
 use Rattle.rl_time.specs.declared.time.Time.{Time}
-use Rattle.rl_flow.specs.Words.{compiled_file, evaluated, time_of}
+use Rattle.rl_flow.specs.Words.{is_file_word, is_number_word, is_name_word, time_of, are_time_words}
 
--- what is to be done with a file: compile its network, or evaluate it at times
+-- what is to be done with a file: compile its source; evaluate its source at times; write the network of its table; write the
+-- table of its network's output of this name, on times up to a number
 pub data Task : Type 0 where
   Compile : Task
   Eval : List Time → Task
+  Synth : Task
+  Tabulate : List ℕ → ℕ → Task
 
 -- a file and what is to be done with it
 abbrev pub Command : Type 0
 Command = List ℕ × Task
 
-abbrev command_from : Option (List ℕ) → Option (List ℕ × List (List ℕ)) → Option Command
-command_from (Some file) asked = Some (file, Compile)
-command_from None (Some asked) = Some (asked.0, Eval (map time_of asked.1))
-command_from None None = None
+-- the task, where no words are left
+abbrev pub alone : Task → List (List ℕ) → Option Task
+alone task [] = Some task
+alone task (w ∷ words) = None
 
--- the command of the words, if they are one
-abbrev pub command_of : List (List ℕ) → Option Command
-command_of words = command_from (compiled_file words) (evaluated words)
+-- TIME..
+abbrev pub eval_task : List (List ℕ) → Option Task
+eval_task words = if are_time_words words then Some (Eval (map time_of words)) else None
+
+-- NAME WINDOW
+abbrev pub tabulate_task : List (List ℕ) → Option Task
+tabulate_task (name ∷ window ∷ []) =
+    if is_name_word name && is_number_word 1000000 window then Some (Tabulate name (digits_value 10 window)) else None
+tabulate_task (a ∷ b ∷ c ∷ words) = None
+tabulate_task (a ∷ []) = None
+tabulate_task [] = None
+
+-- the task of a command's first word and of those behind its file
+abbrev pub task_of : List ℕ → List (List ℕ) → Option Task
+task_of command words =
+    if bytes_eq command (codes "compile") then alone Compile words
+    else if bytes_eq command (codes "eval") then eval_task words
+    else if bytes_eq command (codes "synth") then alone Synth words
+    else if bytes_eq command (codes "tabulate") then tabulate_task words
+    else None
+
+-- The command of the words, if they are one: `compile FILE`, `eval FILE TIME..`, `synth FILE` or `tabulate FILE NAME WINDOW`.
+unfoldable pub command_of : List (List ℕ) → Option Command
+command_of (command ∷ file ∷ words) =
+    if is_file_word file then option_map (λ task. (file, task)) (task_of command words) else None
+command_of (a ∷ []) = None
+command_of [] = None

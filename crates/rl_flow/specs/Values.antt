@@ -1,38 +1,38 @@
--- The values of a network's outputs, as they are told.
+-- The values of a source's outputs, as they are told.
 use Rattle.std.specs.Prelude.{◌≡◌, ◌≢◌, ◌⊎◌, ℕ, List, [], ◌∷◌, ◌++◌, length, codes}
 use Rattle.rl_time.specs.declared.time.Time.{Time}
 use Rattle.rl_time.specs.Text.{time_text}
-use Rattle.net_lang.specs.Formula.{Equation, Net}
-use Rattle.net_lang.specs.Spelling.{SpellsNetwork}
-use Rattle.net_lang.specs.Value.{space_time_function}
 use Rattle.rl_flow.specs.declared.fault.Fault.{Fault}
 use Rattle.rl_flow.specs.declared.fault.Fault.TheVariants as fault
-use Rattle.rl_flow.specs.Sources.{IsNoNetwork}
+use Rattle.rl_flow.specs.declared.source.Source.{Source}
+use Rattle.rl_flow.specs.Sources.{SpellsSource, IsNoSource, inputs_of, outputs_of, function_of}
 
 -- a line for an output: its name, a space, its time
 abbrev pub value_line : List ℕ → Time → List ℕ
 value_line name t = name ++ codes " " ++ time_text t ++ codes "\n"
 
--- the lines of outputs at these times, in order
-abbrev pub value_lines : List Equation → List Time → List ℕ
+-- the lines of outputs of these names at these times, in order
+abbrev pub value_lines : List (List ℕ) → List Time → List ℕ
 value_lines [] times = []
-value_lines (e ∷ equations) [] = []
-value_lines (e ∷ equations) (t ∷ times) = value_line e.name t ++ value_lines equations times
+value_lines (name ∷ names) [] = []
+value_lines (name ∷ names) (t ∷ times) = value_line name t ++ value_lines names times
 
--- the bytes spell a network of as many inputs as there are times, and the text tells the time of each output, by the network's
--- space-time function
+-- the bytes spell a source of as many inputs as there are times, and the text tells the time of each output, by the source's
+-- function
 pub record IsValueText (times : List Time) (bytes text : List ℕ) : Type 0 where
-  pub network : Net
-  pub read : SpellsNetwork bytes network
-  pub one_for_each_input : length times ≡ length network.inputs
-  pub written : text ≡ value_lines network.outputs (space_time_function network times)
+  pub source : Source
+  pub read : SpellsSource bytes source
+  pub one_for_each_input : length times ≡ length (inputs_of source)
+  pub written : text ≡ value_lines (outputs_of source) (function_of source times)
 
--- the bytes spell a network of as many inputs as there are times
+-- the bytes spell a source of as many inputs as there are times
 abbrev pub CanBeValued : List Time → List ℕ → Type 0
-CanBeValued times bytes = (n : Net) × SpellsNetwork bytes n × (length times ≡ length n.inputs)
+CanBeValued times bytes = (s : Source) × SpellsSource bytes s × (length times ≡ length (inputs_of s))
 
--- the bytes spell no network, or one of another number of inputs, which the fault tells
+-- the source has another number of inputs, which the fault tells
+abbrev pub HasOtherInputs : List Time → Source → Fault → Type 0
+HasOtherInputs times s f = (f ≡ fault.Inputs (length (inputs_of s))) × (length (inputs_of s) ≢ length times)
+
+-- the bytes spell no source, or one of another number of inputs
 abbrev pub IsNotValued : List Time → List ℕ → Fault → Type 0
-IsNotValued times bytes f =
-    IsNoNetwork bytes f
-    ⊎ ((n : Net) × SpellsNetwork bytes n × (f ≡ fault.Inputs (length n.inputs)) × (length n.inputs ≢ length times))
+IsNotValued times bytes f = IsNoSource bytes f ⊎ ((s : Source) × SpellsSource bytes s × HasOtherInputs times s f)

@@ -1,5 +1,5 @@
 -- The words of a command.
-use Rattle.std.specs.Prelude.{ℕ, Bool, not, ◌&&◌, ◌==◌, nat_le, if◌then◌else◌, List, [], ◌∷◌, length, map, codes, decimal, slice_index_or, Option, Some, None, is_some, unwrap_or, String, string_bytes}
+use Rattle.std.specs.Prelude.{ℕ, Bool, not, ◌&&◌, ◌||◌, ◌==◌, nat_le, if◌then◌else◌, List, length, map, codes, decimal, slice_index_or, Option, Some, None, is_some, unwrap_or, String, string_bytes}
 use Rattle.std.specs.List.{list_all}
 use Rattle.std.specs.Str.{bytes_eq}
 use Rattle.std.specs.Str.Parse.{digits_value}
@@ -11,18 +11,19 @@ use Rattle.rl_time.specs.declared.time.Time.TheVariants.{At, Never}
 abbrev pub is_file_word : List ℕ → Bool
 is_file_word word = nat_le 1 (length word) && nat_le (length word) 4096 && not (slice_index_or word 0 0 == 45)
 
--- the file of the words `compile FILE`; none for other words
-abbrev pub compiled_file : List (List ℕ) → Option (List ℕ)
-compiled_file (command ∷ file ∷ []) = if bytes_eq command (codes "compile") && is_file_word file then Some file else None
-compiled_file (a ∷ b ∷ c ∷ words) = None
-compiled_file (a ∷ []) = None
-compiled_file [] = None
+-- the word is a number in decimal, without a leading zero, and at most this
+abbrev pub is_number_word : ℕ → List ℕ → Bool
+is_number_word most word = nat_le (digits_value 10 word) most && bytes_eq word (decimal (digits_value 10 word))
+
+-- the number that a word writes so, if it is one
+abbrev pub number_word : ℕ → List ℕ → Option ℕ
+number_word most word = if is_number_word most word then Some (digits_value 10 word) else None
 
 -- the time that a word writes: `never`, or a number up to 1,000,000,000,000 without a leading zero
 abbrev pub time_word : List ℕ → Option Time
 time_word word =
     if bytes_eq word (codes "never") then Some Never
-    else if nat_le (digits_value 10 word) 1000000000000 && bytes_eq word (decimal (digits_value 10 word)) then Some (At (digits_value 10 word))
+    else if is_number_word 1000000000000 word then Some (At (digits_value 10 word))
     else None
 
 abbrev pub is_time_word : List ℕ → Bool
@@ -32,13 +33,24 @@ is_time_word word = is_some (time_word word)
 abbrev pub time_of : List ℕ → Time
 time_of word = unwrap_or (time_word word) Never
 
--- the file of the words `eval FILE TIME..` and the words of its 1 to 64 times; none for other words
-abbrev pub evaluated : List (List ℕ) → Option (List ℕ × List (List ℕ))
-evaluated (command ∷ file ∷ times) =
-    if bytes_eq command (codes "eval") && is_file_word file && nat_le 1 (length times) && nat_le (length times) 64 && list_all is_time_word times then Some (file, times)
-    else None
-evaluated (a ∷ []) = None
-evaluated [] = None
+-- 1 to 64 words, and each writes a time
+abbrev pub are_time_words : List (List ℕ) → Bool
+are_time_words words = nat_le 1 (length words) && nat_le (length words) 64 && list_all is_time_word words
+
+abbrev is_between : ℕ → ℕ → ℕ → Bool
+is_between low high b = nat_le low b && nat_le b high
+
+-- a to z, or A to Z
+abbrev pub is_letter : ℕ → Bool
+is_letter b = is_between 97 122 b || is_between 65 90 b
+
+-- a letter, a digit or `_`
+abbrev pub is_name_byte : ℕ → Bool
+is_name_byte b = is_letter b || is_between 48 57 b || (b == 95)
+
+-- a word that may name an output: 1 to 32 bytes, a letter and then letters, digits and `_`
+abbrev pub is_name_word : List ℕ → Bool
+is_name_word word = nat_le 1 (length word) && nat_le (length word) 32 && is_letter (slice_index_or word 0 0) && list_all is_name_byte word
 
 -- the words as lists of bytes
 abbrev pub texts_of : List (String Global) → List (List ℕ)

@@ -1,60 +1,97 @@
-ghost use Rattle.std.specs.Prelude.{◌≡◌, ◌≤◌, ◌<◌, ℕ, length, IfOk, IfErr, Err};
-ghost use Rattle.net_lang.specs.Spelling.{SpellsNetwork};
-ghost use Rattle.term_store.specs.Terms.{network_trees};
-ghost use Rattle.term_store.specs.Subterms.{register_bits};
+ghost use Rattle.std.specs.Prelude.{◌≡◌, ◌≤◌, ◌<◌, ◌∷◌, [], ℕ, length, IfOk, IfErr, OnOk, Err};
+ghost use Rattle.term_store.specs.Subterms.{join_count, register_bits};
+ghost use Rattle.gate_lower.specs.Rules as rules;
+ghost use Rattle.gate_lower.specs.Timing.{AreGatesOf};
 ghost use Rattle.gate_lower.specs.declared.lowering.LowerError.TheVariants.{TooManyBits};
-ghost use Rattle.rl_flow.specs.declared.fault.Fault.TheVariants as fault;
-ghost use Rattle.rl_flow.specs.declared.refusal.Refusal.TheVariants.{Refused};
-ghost use Rattle.rl_flow.specs.Sources.{IsNoNetwork, IsUnreadable};
-ghost use Rattle.rl_flow.specs.Compiled.{RealisesNetwork, IsCompiled, IsModuleText, IsNotCompiled};
+ghost use Rattle.func_table.specs.Sound.{AreSound};
+ghost use Rattle.minterm.specs.Minterms.{synthesised};
+ghost use Rattle.rl_flow.specs.declared.source.Source.TheVariants.{OfTable};
+ghost use Rattle.rl_flow.specs.Sources.{IsSound, IsRuled, inputs_of, outputs_of, terms_of, IsUnreadable};
+ghost use Rattle.rl_flow.specs.Compiled.{AreSourceGates, RealisesSource, IsCompiled, IsModuleText, IsNotCompiled};
 
 use crate::fault::Fault;
+use crate::reading::source_of;
 use crate::refusal::Refusal;
-use gate_lower::{LowerError, emit, lower_network};
-use net_lang::{NetError, Network, Rule, read_network};
+use crate::source::Source;
+use func_table::{Name, Table};
+use gate_lower::{Gates, LowerError, emit, lower, lower_network};
+use minterm::{synth, table_names_are_ports, the_term_has_the_tables_values};
+use rl_time::NoMemory;
 use std::alloc::Global;
-use term_store::terms_have_the_networks_values;
+use term_store::{Store, terms_have_the_networks_values};
 use verilog_text::{Module, laws, print_module};
 
-/// The module of a network.
-fn module_of(alloc: Global, n: &Network) -> Result<Module, LowerError>
-    ensures is { IfOk result (IsCompiled n.now) }
-    ensures right { IfOk result (RealisesNetwork n.now) }
-    ensures few { IfOk result (λ m. register_bits (network_trees n.now) ≤ 65536) }
+/// A list of a copy of this name alone.
+pub fn alone(alloc: Global, name: &Name) -> Result<Vec<Name>, NoMemory>
+    ensures one { IfOk result (λ names. names.items ≡ name.now ∷ []) }
+{
+    let mut names = Vec::new(alloc);
+    names.push(Name::new(alloc, name.bytes())?)?;
+    Ok(names)
+}
+
+/// The gates of a table: its term is planted in a store and lowered.
+fn lower_table(alloc: Global, t: &Table) -> Result<Gates, LowerError>
+    requires sound { AreSound t.now.rows }
+    ensures gates { IfOk result (AreSourceGates (OfTable t.now)) }
+    ensures timed { IfOk result (AreGatesOf t.now.inputs (t.now.output ∷ []) (synthesised t.now ∷ [])) }
+    ensures wires { IfOk result (λ g. length g.gates ≡ join_count (synthesised t.now ∷ [])) }
+    ensures bits { IfOk result (λ g. rules.register_bits g ≡ register_bits (synthesised t.now ∷ [])) }
+    ensures few { OnOk result (register_bits (synthesised t.now ∷ []) ≤ 65536) }
     ensures too_many { (bits : ℕ) → result ≡ Err (TooManyBits bits) →
-        (bits ≡ register_bits (network_trees n.now)) × (65536 < bits) }
+        (bits ≡ register_bits (synthesised t.now ∷ [])) × (65536 < bits) }
+{
+    t.rules();
+    table_names_are_ports();
+    let mut store = Store::new(alloc)?;
+    let root = synth(alloc, t, &mut store)?;
+    let outputs = alone(alloc, t.output())?;
+    lower(alloc, &store, &[root], t.inputs(), &outputs)
+}
+
+/// The gates of a source.
+fn gates_of(alloc: Global, source: &Source) -> Result<Gates, LowerError>
+    requires sound { IsSound source.now }
+    ensures gates { IfOk result (AreSourceGates source.now) }
+    ensures timed { IfOk result (AreGatesOf (inputs_of source.now) (outputs_of source.now) (terms_of source.now)) }
+    ensures wires { IfOk result (λ g. length g.gates ≡ join_count (terms_of source.now)) }
+    ensures bits { IfOk result (λ g. rules.register_bits g ≡ register_bits (terms_of source.now)) }
+    ensures few { OnOk result (register_bits (terms_of source.now) ≤ 65536) }
+    ensures too_many { (bits : ℕ) → result ≡ Err (TooManyBits bits) →
+        (bits ≡ register_bits (terms_of source.now)) × (65536 < bits) }
+{
+    match source {
+        Source::OfNetwork(n) => lower_network(alloc, n),
+        Source::OfTable(t) => lower_table(alloc, t),
+    }
+}
+
+/// What is true of every source: a table keeps the rules of tables.
+fn rules(source: &Source)
+    ensures { IsRuled source.now }
+{
+    if let Source::OfTable(t) = source {
+        t.rules();
+    }
+}
+
+/// The module of a source.
+fn module_of(alloc: Global, source: &Source) -> Result<Module, LowerError>
+    requires sound { IsSound source.now }
+    ensures is { IfOk result (IsCompiled source.now) }
+    ensures right { IfOk result (RealisesSource source.now) }
+    ensures few { IfOk result (λ m. register_bits (terms_of source.now) ≤ 65536) }
+    ensures too_many { (bits : ℕ) → result ≡ Err (TooManyBits bits) →
+        (bits ≡ register_bits (terms_of source.now)) × (65536 < bits) }
 {
     terms_have_the_networks_values();
-    let gates = lower_network(alloc, n)?;
+    the_term_has_the_tables_values();
+    rules(source);
+    let gates = gates_of(alloc, source)?;
     let module = emit(alloc, &gates)?;
     module.rules();
     laws::one_history();
     Ok(module)
-}
-
-/// The fault of a rule that a network's text breaks.
-fn broken(rule: Rule, line: u32) -> Refusal
-    ensures { result ≡ Refused (fault.Network rule line) }
-{
-    Refusal::Refused(Fault::Network(rule, line))
-}
-
-/// The network of a file's bytes.
-pub fn network_of(alloc: Global, bytes: &[u8]) -> Result<Network, Refusal>
-    requires short { length bytes.now ≤ 1048576 }
-    ensures network { IfOk result (SpellsNetwork bytes.now) }
-    ensures cause { IfErr result (IsUnreadable (IsNoNetwork bytes.now)) }
-{
-    match read_network(alloc, bytes) {
-        Ok(n) => Ok(n),
-        Err(NetError::Syntax(line)) => Err(broken(Rule::Syntax, line)),
-        Err(NetError::Name(line)) => Err(broken(Rule::Name, line)),
-        Err(NetError::Doubled(line)) => Err(broken(Rule::Doubled, line)),
-        Err(NetError::Unknown(line)) => Err(broken(Rule::Unknown, line)),
-        Err(NetError::Count(line)) => Err(broken(Rule::Count, line)),
-        Err(NetError::Span(line)) => Err(broken(Rule::Span, line)),
-        Err(NetError::NoMemory) => Err(Refusal::NoMemory),
-    }
 }
 
 /// The text of the module of a file's bytes.
@@ -63,8 +100,8 @@ pub fn translate(alloc: Global, bytes: &[u8]) -> Result<Vec<u8>, Refusal>
     ensures text { IfOk result (λ text. IsModuleText bytes.now text.items) }
     ensures cause { IfErr result (IsUnreadable (IsNotCompiled bytes.now)) }
 {
-    let n = network_of(alloc, bytes)?;
-    let module = match module_of(alloc, &n) {
+    let source = source_of(alloc, bytes)?;
+    let module = match module_of(alloc, &source) {
         Ok(module) => module,
         Err(LowerError::TooManyBits(bits)) => return Err(Refusal::Refused(Fault::TooManyBits(
             bits,

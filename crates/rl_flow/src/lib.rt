@@ -3,14 +3,18 @@
 
 mod command;
 mod compile;
-mod evaluate;
 mod fault;
 pub mod laws;
+mod reading;
 mod refusal;
+mod request;
 mod running;
+mod source;
 mod status;
+mod synthesis;
 mod telling;
 mod values;
+mod window;
 
 pub use fault::Fault;
 pub use refusal::Refusal;

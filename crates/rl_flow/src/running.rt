@@ -2,27 +2,30 @@ ghost use Rattle.std.specs.Prelude.{◌≡◌, ◌≢◌, ◌⊎◌, ◌≤◌, 
 ghost use Rattle.std.specs.Option.{option_copied};
 ghost use Rattle.rl_io.specs.Causes.{Rose, RoseBy};
 ghost use Rattle.rl_io.specs.Files.{OnFile, Adds};
-ghost use Rattle.spike_eval.specs.Early.{AreEarly};
 ghost use Rattle.rl_flow.specs.Words.{texts_of};
-ghost use Rattle.rl_flow.specs.Task.{Task, Compile, Eval, command_of};
+ghost use Rattle.rl_flow.specs.Request.{task, IsSmall};
+ghost use Rattle.rl_flow.specs.Sources.{IsUnreadable};
+ghost use Rattle.rl_flow.specs.Task.{Task, command_of};
 ghost use Rattle.rl_flow.specs.Refusal.{status_of, line_of};
-ghost use Rattle.rl_flow.specs.Answers.{limit_of, CanBeDone, IsUnread, IsCause, IsTooLong, OnBytes, IsAnswer, Answers, WritesPart, PutsLine, HasCause, Leaves, Tells, IsRefused, Says, Wrote, EndsBy};
+ghost use Rattle.rl_flow.specs.Answers.{limit_of, IsText, CanBeDone, IsUnread, IsCause, IsTooLong, OnBytes, IsAnswer, Answers, WritesPart, PutsLine, HasCause, Leaves, Tells, IsRefused, Says, Wrote, EndsBy};
 ghost use Rattle.rl_flow.specs.declared.refusal.Refusal.{Refusal};
 ghost use Rattle.rl_flow.specs.declared.fault.Fault.{Fault};
 ghost use Rattle.rl_flow.specs.declared.refusal.Refusal.TheVariants.{TooLong, Refused};
 
-use crate::command::{compiled_file, evaluated, times};
+use crate::command::{command, times};
 use crate::compile::translate;
-use crate::evaluate::evaluate;
 use crate::laws::{no_fault, one_fault};
 use crate::refusal::Refusal;
+use crate::request::Request;
 use crate::status::Status;
+use crate::synthesis::synthesise;
 use crate::telling::put_line;
+use crate::values::evaluate;
+use crate::window::tabulate_output;
 use rl_io::{LoadError, Shelf, Sink, load, put_all};
-use rl_time::Time;
 use std::alloc::Global;
 
-/// The most bytes that a network file may have.
+/// The most bytes that a file may have.
 const LIMIT: u64 = 1048576;
 
 /// The bytes of a file, of at most so many.
@@ -47,34 +50,22 @@ fn load_file<S: Shelf>(
     }
 }
 
-/// The text of the module of a file.
-fn compile_file<S: Shelf>(alloc: Global, shelf: &mut S, file: &str) -> Result<Vec<u8>, Refusal>
-    ensures kept { S.contents shelf.new ≡ S.contents shelf.old }
-    ensures shelf_planned { S.plan shelf.new ≡ S.plan shelf.old }
-    ensures later { (n : List ℕ) → S.faults shelf.old n ≤ S.faults shelf.new n }
-    ensures text { IfOk result (λ text. IsAnswer (S.contents shelf.old) (file.now, Compile) text.items) }
-    ensures cause { IfErr result (HasCause (Some (file.now, Compile)) (S.contents shelf.old) (λ f. Rose (S.faults shelf.old f) (S.faults shelf.new f)) (λ l. RoseBy l (S.given shelf.old) (S.given shelf.new)) ⊥) }
+/// The text that a request makes of a file's bytes.
+fn text_of(alloc: Global, request: Request<'_>, bytes: &[u8]) -> Result<Vec<u8>, Refusal>
+    requires short { length bytes.now ≤ 1048576 }
+    requires small { IsSmall request }
+    ensures text { IfOk result (λ text. IsText (task request.entry) bytes.now text.items) }
+    ensures cause { IfErr result (IsUnreadable (IsCause (task request.entry) bytes.now)) }
 {
-    let bytes = load_file(alloc, shelf, file, LIMIT)?;
-    translate(alloc, bytes.as_slice())
-}
-
-/// The text of the values of a file's network at times.
-fn evaluate_file<S: Shelf>(
-    alloc: Global,
-    shelf: &mut S,
-    file: &str,
-    times: &[Time],
-) -> Result<Vec<u8>, Refusal>
-    requires early { AreEarly times.now }
-    ensures kept { S.contents shelf.new ≡ S.contents shelf.old }
-    ensures shelf_planned { S.plan shelf.new ≡ S.plan shelf.old }
-    ensures later { (n : List ℕ) → S.faults shelf.old n ≤ S.faults shelf.new n }
-    ensures text { IfOk result (λ text. IsAnswer (S.contents shelf.old) (file.now, Eval times.now) text.items) }
-    ensures cause { IfErr result (HasCause (Some (file.now, Eval times.now)) (S.contents shelf.old) (λ f. Rose (S.faults shelf.old f) (S.faults shelf.new f)) (λ l. RoseBy l (S.given shelf.old) (S.given shelf.new)) ⊥) }
-{
-    let bytes = load_file(alloc, shelf, file, LIMIT)?;
-    evaluate(alloc, bytes.as_slice(), times)
+    match request {
+        Request::Compile => translate(alloc, bytes),
+        Request::Eval(words) => {
+            let times = times(alloc, words)?;
+            evaluate(alloc, bytes, &times)
+        }
+        Request::Synth => synthesise(alloc, bytes),
+        Request::Tabulate(name, window) => tabulate_output(alloc, bytes, name.as_bytes(), window),
+    }
 }
 
 /// The text that a command makes of its file.
@@ -85,14 +76,11 @@ fn answer<S: Shelf>(alloc: Global, words: &[String], shelf: &mut S) -> Result<Ve
     ensures text { IfOk result (λ text. IsSomeAnd (command_of (texts_of words.now)) (λ c. IsAnswer (S.contents shelf.old) c text.items)) }
     ensures cause { IfErr result (HasCause (command_of (texts_of words.now)) (S.contents shelf.old) (λ f. Rose (S.faults shelf.old f) (S.faults shelf.new f)) (λ l. RoseBy l (S.given shelf.old) (S.given shelf.new)) ⊥) }
 {
-    if let Some(file) = compiled_file(words) {
-        return compile_file(alloc, shelf, file);
-    }
-    let Some((file, later)) = evaluated(words) else {
+    let Some((file, request)) = command(words) else {
         return Err(Refusal::Words);
     };
-    let times = times(alloc, later)?;
-    evaluate_file(alloc, shelf, file, &times)
+    let bytes = load_file(alloc, shelf, file, LIMIT)?;
+    text_of(alloc, request, bytes.as_slice())
 }
 
 /// Does a command, or says why not. Nothing is written before the whole text is made.

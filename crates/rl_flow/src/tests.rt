@@ -82,6 +82,41 @@ const DELAYS_MODULE: &[u8] = b"module race(clk, rst, in_a, out_y, out_z);
 endmodule
 ";
 
+// The module of a table of the row `0 - -> 2`.
+const FIRST_MODULE: &[u8] = b"module race(clk, rst, in_a, in_b, out_y);
+  input clk;
+  input rst;
+  input in_a;
+  input in_b;
+  output out_y;
+  wire w0;
+  reg r0;
+  reg r1;
+  reg r2;
+  assign w0 = r2 | (r1 & ~in_b);
+  assign out_y = w0;
+  always @(posedge clk) if (rst) r0 <= 1'b0; else r0 <= in_a;
+  always @(posedge clk) if (rst) r1 <= 1'b0; else r1 <= r0;
+  always @(posedge clk) if (rst) r2 <= 1'b0; else r2 <= w0;
+endmodule
+";
+
+const EMPTY_MODULE: &[u8] = b"module race(clk, rst, in_a, in_b, out_y);
+  input clk;
+  input rst;
+  input in_a;
+  input in_b;
+  output out_y;
+  assign out_y = 1'b0;
+endmodule
+";
+
+const EMPTY: &[u8] = b"racetable 1\ninputs a b\noutput y\n";
+
+const FIRST: &[u8] = b"racetable 1\ninputs a b\noutput y\n0 - -> 2\n";
+
+const PAIR: &[u8] = b"racetable 1\ninputs a b\noutput y\n0 3 -> 5\n1 0 -> 4\n";
+
 /// How a shelf and a sink behave: the bytes of a fetch and of a put at most, and the calls that fail, from 1.
 #[derive(Drop)]
 struct Outside<'a> {
@@ -157,6 +192,91 @@ fn compiles_networks_to_modules(rt: HostRuntime) -> Result<(), Fail> {
     expect_module(&rt, alloc, delays, DELAYS_MODULE)
 }
 
+#[test]
+fn compiles_tables_to_modules(rt: HostRuntime) -> Result<(), Fail> {
+    let alloc = rt.alloc();
+    let spaced = b"# a table\n\n racetable 1 \ninputs a b\noutput y\n0 - -> 2";
+    expect_module(&rt, alloc, EMPTY, EMPTY_MODULE)?;
+    expect_module(&rt, alloc, FIRST, FIRST_MODULE)?;
+    expect_module(&rt, alloc, spaced, FIRST_MODULE)
+}
+
+#[test]
+fn writes_the_networks_of_tables(rt: HostRuntime) -> Result<(), Fail> {
+    let alloc = rt.alloc();
+    let words = &["synth", "f"];
+    let never = b"racenet 1\ninput a b\noutput y = never\n";
+    expect_values(&rt, alloc, EMPTY, words, never)?;
+    let first = b"racenet 1\ninput a b\nlet _0 = inc(a, 2)\nlet _1 = lt(_0, b)\noutput y = _1\n";
+    expect_values(&rt, alloc, FIRST, words, first)?;
+    let one_row = b"racetable 1\ninputs a b\noutput y\n0 3 -> 5\n";
+    let six = b"racenet 1
+input a b
+let _0 = inc(a, 5)
+let _1 = inc(b, 2)
+let _2 = max(_0, _1)
+let _3 = min(_0, _1)
+let _4 = inc(_3, 1)
+let _5 = lt(_2, _4)
+output y = _5
+";
+    expect_values(&rt, alloc, one_row, words, six)
+}
+
+#[test]
+fn writes_the_tables_of_networks(rt: HostRuntime) -> Result<(), Fail> {
+    let alloc = rt.alloc();
+    let earliest = b"racetable 1\ninputs a b\noutput y\n0 0 -> 0\n0 - -> 0\n- 0 -> 0\n";
+    expect_values(&rt, alloc, EARLIEST, &["tabulate", "f", "y", "1"], earliest)?;
+    let race = b"racenet 1\ninput a b\noutput x = b\noutput y_1 = lt(a, b)\n";
+    let before = b"racetable 1\ninputs a b\noutput y_1\n0 - -> 0\n";
+    expect_values(&rt, alloc, race, &["tabulate", "f", "y_1", "1"], before)?;
+    let late = b"racenet 1\ninput a\noutput y = inc(a, 255)\n";
+    let last = b"racetable 1\ninputs a\noutput y\n0 -> 255\n";
+    expect_values(&rt, alloc, late, &["tabulate", "f", "y", "0"], last)
+}
+
+const THREE: &[u8] = b"racenet 1\ninput a b c\noutput y = min(a, min(b, c))\n";
+
+#[test]
+fn refuses_windows(rt: HostRuntime) -> Result<(), Fail> {
+    let alloc = rt.alloc();
+    let late = b"racenet 1\ninput a\noutput y = inc(a, 256)\n";
+    let many = b"racenet 1\ninput a b\noutput y = max(a, b)\n";
+    let cases = [
+        (
+            THREE,
+            ["tabulate", "f", "y", "39"],
+            b"racelog: E40 39\n".as_slice(),
+        ),
+        (
+            late,
+            ["tabulate", "f", "y", "0"],
+            b"racelog: E42 256\n".as_slice(),
+        ),
+        (
+            many,
+            ["tabulate", "f", "y", "200"],
+            b"racelog: E41 256\n".as_slice(),
+        ),
+        (
+            late,
+            ["tabulate", "f", "z", "0"],
+            b"racelog: E52\n".as_slice(),
+        ),
+        (
+            FIRST,
+            ["tabulate", "f", "y", "0"],
+            b"racelog: E10 file 1 line 1\n".as_slice(),
+        ),
+    ];
+    for (file, words, line) in cases {
+        let want = (Status::Refused, b"".as_slice(), line);
+        expect(&rt, alloc, file, &words, &EASY, want)?;
+    }
+    Ok(())
+}
+
 // The words, after `eval f`, give this text.
 fn expect_values(
     rt: &impl Abort,
@@ -194,6 +314,73 @@ fn tells_values(rt: HostRuntime) -> Result<(), Fail> {
     let middle = b"racenet 1\ninput a b c\noutput m = max(min(a, b), min(max(a, b), c))\n";
     let words = &["eval", "f", "7", "3", "5"];
     expect_values(&rt, alloc, middle, words, b"m 5\n")
+}
+
+#[test]
+fn tells_values_of_tables(rt: HostRuntime) -> Result<(), Fail> {
+    let alloc = rt.alloc();
+    let cases = [
+        (["eval", "f", "7", "10"], b"y 12\n".as_slice()),
+        (["eval", "f", "7", "11"], b"y never\n".as_slice()),
+        (
+            ["eval", "f", "1000007", "1000010"],
+            b"y 1000012\n".as_slice(),
+        ),
+        (["eval", "f", "8", "7"], b"y 11\n".as_slice()),
+        (["eval", "f", "never", "never"], b"y never\n".as_slice()),
+    ];
+    for (words, text) in cases {
+        expect_values(&rt, alloc, PAIR, &words, text)?;
+    }
+    expect_values(&rt, alloc, EMPTY, &["eval", "f", "0", "0"], b"y never\n")
+}
+
+#[test]
+fn refuses_tables(rt: HostRuntime) -> Result<(), Fail> {
+    let alloc = rt.alloc();
+    let cases = [
+        (
+            b"racetable 2\ninputs a\noutput y\n".as_slice(),
+            b"racelog: E30 file 1 line 1\n".as_slice(),
+        ),
+        (
+            b"racetable 1\ninputs a a\noutput y\n",
+            b"racelog: E31 file 1 line 2\n",
+        ),
+        (
+            b"racetable 1\ninputs a b\noutput y\n1 2 -> 3\n",
+            b"racelog: E32 file 1 row 1\n",
+        ),
+        (
+            b"racetable 1\ninputs a b\noutput y\n0 6 -> 5\n",
+            b"racelog: E33 file 1 row 1 place 2\n",
+        ),
+        (
+            b"racetable 1\ninputs a b\noutput y\n0 1 -> 1\n0 1 -> 1\n",
+            b"racelog: E34 file 1 rows 1 2\n",
+        ),
+        (
+            b"racetable 1\ninputs a b\noutput y\n0 3 -> 5\n1 0 -> 4\n0 - -> 2\n",
+            b"racelog: E35 file 1 rows 1 3\n",
+        ),
+        (b"! racetable 1\n", b"racelog: E10 file 1 line 1\n"),
+        (b"racetable 1\n!\n", b"racelog: E30 file 1 line 2\n"),
+    ];
+    for (file, line) in cases {
+        expect_refused(&rt, alloc, file, line)?;
+    }
+    let no_table = (
+        Status::Refused,
+        b"".as_slice(),
+        b"racelog: E30 file 1 line 1\n".as_slice(),
+    );
+    expect(&rt, alloc, EARLIEST, &["synth", "f"], &EASY, no_table)?;
+    let two = (
+        Status::Refused,
+        b"".as_slice(),
+        b"racelog: E51 2\n".as_slice(),
+    );
+    expect(&rt, alloc, FIRST, &["eval", "f", "4"], &EASY, two)
 }
 
 // Lets of which each takes the one before twice.
@@ -278,7 +465,14 @@ fn refuses_words(rt: HostRuntime) -> Result<(), Fail> {
     expect_usage(&rt, alloc, &["eval", "f", "04", "4"])?;
     expect_usage(&rt, alloc, &["eval", "f", "1000000000001", "4"])?;
     expect_usage(&rt, alloc, &["eval", "f", "Never", "4"])?;
-    expect_usage(&rt, alloc, &["eval", "-f", "4", "4"])
+    expect_usage(&rt, alloc, &["eval", "-f", "4", "4"])?;
+    expect_usage(&rt, alloc, &["synth", "f", "f"])?;
+    expect_usage(&rt, alloc, &["tabulate", "f", "y"])?;
+    expect_usage(&rt, alloc, &["tabulate", "f", "_y", "1"])?;
+    expect_usage(&rt, alloc, &["tabulate", "f", "y-", "1"])?;
+    expect_usage(&rt, alloc, &["tabulate", "f", "y", "never"])?;
+    expect_usage(&rt, alloc, &["tabulate", "f", "y", "01"])?;
+    expect_usage(&rt, alloc, &["tabulate", "f", "y", "1000001"])
 }
 
 #[test]

@@ -1,33 +1,22 @@
-ghost use Rattle.std.specs.Prelude.{◌≡◌, ◌≢◌, ◌++◌, ℕ, length, OnOk, IfOk, Err};
+ghost use Rattle.std.specs.Prelude.{◌≡◌, ◌≢◌, ◌≤◌, ◌++◌, ◌∷◌, [], ℕ, length, OnOk, IfOk, IfErr, Err};
+ghost use Rattle.net_lang.specs.Rules.{names_of};
 ghost use Rattle.net_lang.specs.Value.{space_time_function};
 ghost use Rattle.spike_eval.specs.Early.{AreEarly};
-ghost use Rattle.rl_flow.specs.Values.{value_line, value_lines};
-ghost use Rattle.rl_flow.specs.declared.values.ValueError.TheVariants.{Inputs};
+ghost use Rattle.func_table.specs.Sound.{AreSound};
+ghost use Rattle.func_table.specs.Function.{table_function};
+ghost use Rattle.rl_flow.specs.Sources.{IsSound, inputs_of, outputs_of, function_of, IsUnreadable};
+ghost use Rattle.rl_flow.specs.Values.{value_line, value_lines, HasOtherInputs, IsValueText, IsNotValued};
 
+use crate::fault::Fault;
+use crate::reading::source_of;
+use crate::refusal::Refusal;
+use crate::source::Source;
+use func_table::{Table, apply};
 use net_lang::{Binding, Network};
 use rl_text::Name;
 use rl_time::{NoMemory, Time, put_time};
 use spike_eval::eval;
 use std::alloc::Global;
-
-/// Why the values of a network aren't told: it has another number of inputs than there are times, and this number is
-/// told, or memory ran out.
-#[derive(Clone, Copy, Debug, PartialEq, Eq)]
-pub enum ValueError {
-    Inputs(u64),
-    NoMemory,
-}
-
-impl From<NoMemory> for ValueError {
-    ghost use Rattle.std.specs.Prelude.{◌≡◌};
-    ghost use Rattle.rl_flow.specs.declared.values.ValueError.TheVariants.{NoMemory};
-
-    ghost from_gives = { λ _ e. e ≡ NoMemory };
-
-    fn from(_: NoMemory) -> Self {
-        ValueError::NoMemory
-    }
-}
 
 /// Adds the line of an output at the end.
 fn put_value(text: &mut Vec<u8>, name: &Name, time: Time) -> Result<(), NoMemory>
@@ -43,7 +32,7 @@ fn put_value(text: &mut Vec<u8>, name: &Name, time: Time) -> Result<(), NoMemory
 /// The lines of outputs at these times, in order.
 fn value_lines(alloc: Global, outputs: &[Binding], times: &[Time]) -> Result<Vec<u8>, NoMemory>
     requires { length times.now ≡ length outputs.now }
-    ensures { IfOk result (λ text. text.items ≡ value_lines outputs.now times.now) }
+    ensures { IfOk result (λ text. text.items ≡ value_lines (names_of outputs.now) times.now) }
 {
     let mut text = Vec::new(alloc);
     for (place, output) in outputs.iter().enumerate() {
@@ -52,20 +41,63 @@ fn value_lines(alloc: Global, outputs: &[Binding], times: &[Time]) -> Result<Vec
     Ok(text)
 }
 
-/// The values of a network's outputs at one time for each input: for each output a line of its name, a space and its
-/// time, a number of cycles or `never`. Where the times are more or fewer than the inputs, it tells how many inputs the
-/// network has.
-pub fn value_text(alloc: Global, n: &Network, times: &[Time]) -> Result<Vec<u8>, ValueError>
+/// The lines of a network's outputs at these times of its inputs.
+fn network_lines(alloc: Global, n: &Network, times: &[Time]) -> Result<Vec<u8>, NoMemory>
     requires early { AreEarly times.now }
-    ensures text { IfOk result (λ text. (length times.now ≡ length n.now.inputs)
-        × (text.items ≡ value_lines n.now.outputs (space_time_function n.now times.now))) }
-    ensures inputs { (count : ℕ) → result ≡ Err (Inputs count) →
-        (count ≡ length n.now.inputs) × (count ≢ length times.now) }
+    requires one_for_each_input { length times.now ≡ length n.now.inputs }
+    ensures { IfOk result (λ text. text.items ≡ value_lines (names_of n.now.outputs) (space_time_function n.now times.now)) }
 {
-    let inputs = n.inputs().len();
-    if times.len() != inputs {
-        return Err(ValueError::Inputs(inputs as u64));
-    }
     let values = eval(alloc, n, times)?;
-    Ok(value_lines(alloc, n.outputs(), &values)?)
+    value_lines(alloc, n.outputs(), &values)
+}
+
+/// The line of a table's output at these times of its inputs.
+fn table_line(alloc: Global, t: &Table, times: &[Time]) -> Result<Vec<u8>, NoMemory>
+    requires sound { AreSound t.now.rows }
+    requires early { AreEarly times.now }
+    requires one_for_each_input { length times.now ≡ length t.now.inputs }
+    ensures { IfOk result (λ text. text.items ≡ value_lines (t.now.output ∷ []) (table_function t.now.rows times.now ∷ [])) }
+{
+    let mut text = Vec::new(alloc);
+    put_value(&mut text, t.output(), apply(t, times))?;
+    Ok(text)
+}
+
+/// How many inputs a source has.
+fn input_count(source: &Source) -> usize
+    ensures { result ≡ length (inputs_of source.now) }
+{
+    match source {
+        Source::OfNetwork(n) => n.inputs().len(),
+        Source::OfTable(t) => t.inputs().len(),
+    }
+}
+
+/// The lines of a source's outputs at times of its inputs.
+fn lines_of(alloc: Global, source: &Source, times: &[Time]) -> Result<Vec<u8>, NoMemory>
+    requires sound { IsSound source.now }
+    requires early { AreEarly times.now }
+    requires one_for_each_input { length times.now ≡ length (inputs_of source.now) }
+    ensures { IfOk result (λ text. text.items ≡ value_lines (outputs_of source.now) (function_of source.now times.now)) }
+{
+    match source {
+        Source::OfNetwork(n) => network_lines(alloc, n, times),
+        Source::OfTable(t) => table_line(alloc, t, times),
+    }
+}
+
+/// The values of a file's source at times: for each output a line of its name, a space and its time, a number of cycles
+/// or `never`. Where the times are more or fewer than the inputs, it tells how many inputs the source has.
+pub fn evaluate(alloc: Global, bytes: &[u8], times: &[Time]) -> Result<Vec<u8>, Refusal>
+    requires short { length bytes.now ≤ 1048576 }
+    requires early { AreEarly times.now }
+    ensures text { IfOk result (λ text. IsValueText times.now bytes.now text.items) }
+    ensures cause { IfErr result (IsUnreadable (IsNotValued times.now bytes.now)) }
+{
+    let source = source_of(alloc, bytes)?;
+    let inputs = input_count(&source);
+    if times.len() != inputs {
+        return Err(Refusal::Refused(Fault::Inputs(inputs as u64)));
+    }
+    Ok(lines_of(alloc, &source, times)?)
 }

@@ -1,5 +1,5 @@
 use Rattle.std.proofs.Common.{◌∙◌, true, false, arith}
-use Rattle.rl_flow.proofs.Asking.{unread, number_word, early, late}
+use Rattle.rl_flow.proofs.Asking.{unread, writes_time, early, late}
 use Rattle.rl_flow.proofs.command.time_word.Goals as goal
 
 pub returns-in_err-number : goal.returns-in_err-number
@@ -7,10 +7,10 @@ returns-in_err-number c = c.from_residual.ensures ∙ unread c.args.word.now c.a
 
 pub returns-then-number-le1000000000000 : goal.returns-then-number-le1000000000000
 returns-then-number-le1000000000000 c =
-    number_word c.args.word.now c.as_bytes.result.now c.in_ok-number.field-0 c.in-At.number true c.as_bytes.ensures.value c.in-At.is c.in_ok-number.ensures.read c.in_ok-number.ensures.written
+    writes_time c.args.word.now c.as_bytes.result.now c.in_ok-number.field-0 c.in-At.number true c.as_bytes.ensures.value c.in-At.is c.in_ok-number.ensures.read c.in_ok-number.ensures.written
     (early c.in-At.number (omega (arith, c.if-number-le1000000000000.true)))
 
 pub returns-else-number-le1000000000000 : goal.returns-else-number-le1000000000000
 returns-else-number-le1000000000000 c =
-    number_word c.args.word.now c.as_bytes.result.now c.in_ok-number.field-0 c.in-At.number false c.as_bytes.ensures.value c.in-At.is c.in_ok-number.ensures.read c.in_ok-number.ensures.written
+    writes_time c.args.word.now c.as_bytes.result.now c.in_ok-number.field-0 c.in-At.number false c.as_bytes.ensures.value c.in-At.is c.in_ok-number.ensures.read c.in_ok-number.ensures.written
     (late c.in-At.number (omega (arith, c.if-number-le1000000000000.false)))

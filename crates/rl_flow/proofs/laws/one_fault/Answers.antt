@@ -1,5 +1,9 @@
-use Rattle.rl_flow.proofs.Judging.{reads_networks, one_fault}
+use Rattle.rl_flow.proofs.Judging.{readings, one_fault}
 use Rattle.rl_flow.proofs.laws.one_fault.Goals as goal
 
 pub returns : goal.returns
-returns c = one_fault (reads_networks c.one_network.ensures c.no_cause.ensures c.one_cause.ensures)
+returns c =
+    one_fault
+    (readings c.one_network.ensures c.no_cause.ensures c.one_cause.ensures c.one_table.ensures c.no_cause-2.ensures c.one_cause-2.ensures
+    c.one_row_fault.ensures c.sound_or_fault.ensures.never_both)
+    c.one_window_cause.ensures.one

@@ -5,7 +5,7 @@ use Rattle.std.proofs.lemmas.Iterator.{YieldsList-from_slice}
 use Rattle.std.proofs.lemmas.Iterator.Search.{all_from_yields_List}
 use Rattle.rl_flow.specs.Words.{is_time_word}
 use Rattle.rl_flow.proofs.Asking.{all_texts}
-use Rattle.rl_flow.proofs.command.are_time_words.Goals as goal
+use Rattle.rl_flow.proofs.command.all_time_words.Goals as goal
 
 pub returns : goal.returns
 returns c =

@@ -1,0 +1,61 @@
+ghost use Rattle.std.specs.Prelude.{◌≡◌, ◌≤◌, length, IfOk, IfErr};
+ghost use Rattle.rl_flow.specs.Sources.{IsUnreadable};
+ghost use Rattle.rl_flow.specs.Windows.{output_place, IsWindowTable, CannotBeWritten, IsWindowText, IsNotTabulated};
+
+use crate::fault::Fault;
+use crate::reading::network_of;
+use crate::refusal::Refusal;
+use causality::{TabError, tabulate};
+use func_table::{Table, print_table, printing_spells};
+use net_lang::Network;
+use std::alloc::Global;
+
+/// The place of the output of this name, from 0.
+fn output_place(n: &Network, name: &[u8]) -> Option<usize>
+    ensures { result ≡ output_place name.now n.now }
+{
+    n.outputs()
+        .iter()
+        .position(|output| output.name().bytes() == name)
+}
+
+/// The table of the output of this name within a window.
+fn table_of_output(alloc: Global, n: &Network, name: &[u8], window: u32) -> Result<Table, Refusal>
+    requires small { window ≤ 1000000 }
+    ensures table { IfOk result (IsWindowTable name.now window n.now) }
+    ensures cause { IfErr result (IsUnreadable (CannotBeWritten name.now window n.now)) }
+{
+    n.rules();
+    let Some(place) = output_place(n, name) else {
+        return Err(Refusal::Refused(Fault::NoOutput));
+    };
+    match tabulate(alloc, n, place as u32, window) {
+        Ok(t) => {
+            t.rules();
+            Ok(t)
+        }
+        Err(TabError::TooWide) => Err(Refusal::Refused(Fault::TooWide(window))),
+        Err(TabError::TooLate(value)) => Err(Refusal::Refused(Fault::TooLate(value))),
+        Err(TabError::TooManyRows) => Err(Refusal::Refused(Fault::TooManyRows)),
+        Err(TabError::NoMemory) => Err(Refusal::NoMemory),
+    }
+}
+
+/// The text of the table of the output of this name within a window, of a file's network.
+pub fn tabulate_output(
+    alloc: Global,
+    bytes: &[u8],
+    name: &[u8],
+    window: u32,
+) -> Result<Vec<u8>, Refusal>
+    requires short { length bytes.now ≤ 1048576 }
+    requires small { window ≤ 1000000 }
+    ensures text { IfOk result (λ text. IsWindowText name.now window bytes.now text.items) }
+    ensures cause { IfErr result (IsUnreadable (IsNotTabulated name.now window bytes.now)) }
+{
+    printing_spells();
+    let n = network_of(alloc, bytes)?;
+    let t = table_of_output(alloc, &n, name, window)?;
+    t.rules();
+    Ok(print_table(alloc, &t)?)
+}
