@@ -1,3 +1,4 @@
 pub mod Edges
 pub mod Passes
 pub mod Histories
+pub mod Grown

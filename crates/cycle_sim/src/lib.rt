@@ -4,8 +4,10 @@
 pub mod laws;
 mod levels;
 mod row;
+mod running;
 mod sim;
 
+pub use running::simulate;
 pub use sim::Sim;
 
 #[cfg(test)]

@@ -5,7 +5,7 @@ ghost use Rattle.verilog_text.specs.Circuit as circuit;
 ghost use Rattle.verilog_text.specs.Circuit.{Not, And, Or};
 ghost use Rattle.verilog_text.specs.View.{logic};
 
-use crate::{Sim, laws};
+use crate::{Sim, laws, simulate};
 use rl_text::Name;
 use rl_time::{NoMemory, Time};
 use std::alloc::Global;
@@ -172,6 +172,19 @@ fn digits(
     Ok(digits)
 }
 
+// The rows of digits in so many cycles, where the inputs rise at these times.
+fn rows(
+    rt: &(impl Abort + AllocGlobal),
+    m: &Module,
+    rises: &[Time],
+    cycles: u32,
+) -> Result<Vec<Vec<u8>>, Fail> {
+    assert_eq!(rt; rises.len(), m.inputs().len());
+    assert!(rt; 1 <= cycles);
+    assert!(rt; cycles <= 100_000);
+    Ok(simulate(rt.alloc(), m, rises, cycles)?)
+}
+
 #[test]
 fn outputs_have_their_levels(rt: HostRuntime) -> Result<(), Fail> {
     let alloc = rt.alloc();
@@ -232,6 +245,59 @@ fn each_of_64_outputs_has_its_own_level(rt: HostRuntime) -> Result<(), Fail> {
             let wanted = if cycle <= out as usize { b'0' } else { b'1' };
             assert_eq!(rt; *level, wanted);
         }
+    }
+    Ok(())
+}
+
+#[test]
+fn each_output_has_its_row_of_digits(rt: HostRuntime) -> Result<(), Fail> {
+    let alloc = rt.alloc();
+    let latch = latch(alloc)?;
+    let delay = delay(alloc)?;
+    let two_taps = two_taps(alloc)?;
+    let ring = ring(alloc)?;
+    let tie = [Time::At(4), Time::At(4)];
+    let first = [Time::At(4), Time::At(5)];
+    let last = [Time::At(7), Time::Never];
+    let (at_0, at_1) = ([Time::At(0)], [Time::At(1)]);
+    let cases = [
+        (&latch, tie.as_slice(), 8, ["00000000"].as_slice()),
+        (&latch, first.as_slice(), 8, ["00001111"].as_slice()),
+        (&latch, last.as_slice(), 8, ["00000001"].as_slice()),
+        (&latch, last.as_slice(), 7, ["0000000"].as_slice()),
+        (&delay, at_0.as_slice(), 1, ["0"].as_slice()),
+        (&delay, at_0.as_slice(), 3, ["011"].as_slice()),
+        (
+            &two_taps,
+            at_1.as_slice(),
+            8,
+            ["00001111", "00000011"].as_slice(),
+        ),
+        (
+            &ring,
+            at_0.as_slice(),
+            8,
+            ["01100110", "00110011"].as_slice(),
+        ),
+    ];
+    for (m, rises, cycles, wanted) in cases {
+        let rows = rows(&rt, m, rises, cycles)?;
+        assert_eq!(rt; rows.len(), wanted.len());
+        for (row, text) in rows.iter().zip(wanted) {
+            assert_eq!(rt; row.as_slice(), text.as_bytes());
+        }
+    }
+    Ok(())
+}
+
+#[test]
+fn a_row_has_one_digit_a_cycle(rt: HostRuntime) -> Result<(), Fail> {
+    let alloc = rt.alloc();
+    let rows = rows(&rt, &delay(alloc)?, &[Time::Never], 100)?;
+    let wanted = vec![in alloc; b'0'; 100]?;
+    assert_eq!(rt; rows.len(), 1);
+    for row in &rows {
+        assert_eq!(rt; row.as_slice(), wanted.as_slice());
     }
     Ok(())
 }

@@ -14,3 +14,4 @@ pub mod Order
 pub mod Validity
 pub mod Fitting
 pub mod Repeats
+pub mod Shallow

@@ -1,5 +1,6 @@
 ghost use Rattle.std.specs.Prelude.{◌≡◌, length, IfOk};
 ghost use Rattle.verilog_text.specs.Circuit as circuit;
+ghost use Rattle.verilog_text.specs.Printed.{IsShallow};
 ghost use Rattle.verilog_text.specs.Repeats.{HasNoRepeatedWire};
 ghost use Rattle.gate_lower.specs.Rules as rules;
 ghost use Rattle.gate_lower.specs.Rules.{IsNetlist, delay_bits, output_names};
@@ -58,12 +59,14 @@ fn build(alloc: Global, g: &Gates) -> Result<Module, NoMemory>
 }
 
 /// The module of gates, with one register for each bit: wire `wK` is gate K, and every wire and output is high exactly
-/// from its time on. No two wires are the same gate of the same operands.
+/// from its time on. No two wires are the same gate of the same operands, and in the module's text at most 64 of `~` and
+/// `(` stand one inside another.
 pub fn emit(alloc: Global, g: &Gates) -> Result<Module, NoMemory>
     ensures module_is { IfOk result (λ m. m ≡ plain_module g.now) }
     ensures ports { IfOk result (λ m. (m.inputs ≡ g.now.inputs) × (m.outputs ≡ output_names g.now.outputs)) }
     ensures levels { IfOk result (TimeIsLevel g.now) }
     ensures no_gate_twice { IfOk result HasNoRepeatedWire }
+    ensures shallow { IfOk result IsShallow }
     ensures wires { IfOk result (λ m. length m.wires ≡ length g.now.gates) }
     ensures bits { IfOk result (λ m. circuit.register_bits m ≡ rules.register_bits g.now) }
 {

@@ -11,6 +11,7 @@ use Rattle.verilog_text.specs.Circuit.{Circuit}
 use Rattle.verilog_text.specs.Circuit as circuit
 use Rattle.verilog_text.specs.Meaning.{State, IsHistory, HasOneHistory, levels_from}
 use Rattle.verilog_text.specs.Repeats.{HasNoRepeatedWire}
+use Rattle.verilog_text.specs.Spelling.{SpellsModule}
 use Rattle.verilog_text.specs.Text.{module_text}
 use Rattle.gate_lower.specs.Netlist.{Netlist}
 use Rattle.gate_lower.specs.Lowered.{lowered}
@@ -59,7 +60,7 @@ pub record IsCompiled (s : Source) (m : Circuit) : Type 0 where
   pub module_is : m ≡ plain_module gates
 
 -- the bytes spell a source that needs no more register bits than a module may have, and the text is that of its module, which does
--- what the source says
+-- what the source says; the text spells this module and no other
 pub record IsModuleText (bytes text : List ℕ) : Type 0 where
   pub source : Source
   pub read : SpellsSource bytes source
@@ -67,6 +68,8 @@ pub record IsModuleText (bytes text : List ℕ) : Type 0 where
   pub compiled : Circuit
   pub is : IsCompiled source compiled
   pub written : text ≡ module_text compiled
+  pub spells : SpellsModule text compiled
+  pub no_other : (m : Circuit) → SpellsModule text m → m ≡ compiled
   pub right : RealisesSource source compiled
 
 -- the bytes spell a source that needs no more register bits than a module may have

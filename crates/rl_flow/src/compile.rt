@@ -3,6 +3,7 @@ ghost use Rattle.term_store.specs.Subterms.{join_count, register_bits};
 ghost use Rattle.gate_lower.specs.Rules as rules;
 ghost use Rattle.gate_lower.specs.Timing.{AreGatesOf};
 ghost use Rattle.gate_lower.specs.declared.lowering.LowerError.TheVariants.{TooManyBits};
+ghost use Rattle.verilog_text.specs.Printed.{IsShallow};
 ghost use Rattle.func_table.specs.Sound.{AreSound};
 ghost use Rattle.minterm.specs.Minterms.{synthesised};
 ghost use Rattle.rl_flow.specs.declared.source.Source.TheVariants.{OfTable};
@@ -19,7 +20,7 @@ use minterm::{synth, table_names_are_ports, the_term_has_the_tables_values};
 use rl_time::NoMemory;
 use std::alloc::Global;
 use term_store::{Store, terms_have_the_networks_values};
-use verilog_text::{Module, laws, print_module};
+use verilog_text::{Module, laws, print_module, printing_laws, spelling_laws};
 
 /// A list of a copy of this name alone.
 pub fn alone(alloc: Global, name: &Name) -> Result<Vec<Name>, NoMemory>
@@ -80,6 +81,7 @@ fn module_of(alloc: Global, source: &Source) -> Result<Module, LowerError>
     requires sound { IsSound source.now }
     ensures is { IfOk result (IsCompiled source.now) }
     ensures right { IfOk result (RealisesSource source.now) }
+    ensures shallow { IfOk result IsShallow }
     ensures few { IfOk result (λ m. register_bits (terms_of source.now) ≤ 65536) }
     ensures too_many { (bits : ℕ) → result ≡ Err (TooManyBits bits) →
         (bits ≡ register_bits (terms_of source.now)) × (65536 < bits) }
@@ -100,6 +102,8 @@ pub fn translate(alloc: Global, bytes: &[u8]) -> Result<Vec<u8>, Refusal>
     ensures text { IfOk result (λ text. IsModuleText bytes.now text.items) }
     ensures cause { IfErr result (IsUnreadable (IsNotCompiled bytes.now)) }
 {
+    printing_laws::printing_spells();
+    spelling_laws::one_module();
     let source = source_of(alloc, bytes)?;
     let module = match module_of(alloc, &source) {
         Ok(module) => module,
@@ -108,6 +112,7 @@ pub fn translate(alloc: Global, bytes: &[u8]) -> Result<Vec<u8>, Refusal>
         ))),
         Err(LowerError::NoMemory) => return Err(Refusal::NoMemory),
     };
+    module.rules();
     match print_module(alloc, &module) {
         Ok(text) => Ok(text),
         Err(_) => Err(Refusal::NoMemory),

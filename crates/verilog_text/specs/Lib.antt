@@ -6,3 +6,9 @@ pub mod Valid
 pub mod Meaning
 pub mod Text
 pub mod Repeats
+pub mod Grammar
+pub mod Statements
+pub mod Reading
+pub mod Judging
+pub mod Spelling
+pub mod Printed

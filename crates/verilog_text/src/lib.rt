@@ -7,10 +7,14 @@ mod bit;
 pub mod laws;
 mod module;
 mod print;
+pub mod printing_laws;
+mod rule;
+pub mod spelling_laws;
 
 pub use bit::{Bit, Target};
 pub use module::{Assign, Module, Reg};
 pub use print::print_module;
+pub use rule::Rule;
 
 #[cfg(test)]
 mod tests;

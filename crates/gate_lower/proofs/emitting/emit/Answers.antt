@@ -2,9 +2,11 @@ use Rattle.std.proofs.Common.{◌≡◌, ◌∙◌, ap, sym, subst, length}
 use Rattle.std.proofs.lemmas.Result.{IfOk-weaker}
 use Rattle.verilog_text.specs.Circuit.{Circuit}
 use Rattle.verilog_text.specs.Circuit as circuit
+use Rattle.verilog_text.specs.Printed.{IsShallow}
 use Rattle.verilog_text.specs.Repeats.{HasNoRepeatedWire}
 use Rattle.gate_lower.specs.Rules as rules
 use Rattle.gate_lower.proofs.Repeats.{no_repeated_wire}
+use Rattle.gate_lower.proofs.Shallow.{shallow}
 use Rattle.gate_lower.proofs.Validity.{wire_count, bit_count}
 use Rattle.gate_lower.specs.Timing.{TimeIsLevel}
 use Rattle.gate_lower.specs.Plain.{plain_module}
@@ -20,6 +22,11 @@ pub returns-clause-no_gate_twice : goal.returns-clause-no_gate_twice
 returns-clause-no_gate_twice c =
     let g = c.args.g.now in
     IfOk-weaker c.build.result (λ (m : Circuit). m ≡ plain_module g) HasNoRepeatedWire (λ m e. subst HasNoRepeatedWire (sym e) (no_repeated_wire g c.rules.ensures)) c.build.ensures
+
+pub returns-clause-shallow : goal.returns-clause-shallow
+returns-clause-shallow c =
+    let g = c.args.g.now in
+    IfOk-weaker c.build.result (λ (m : Circuit). m ≡ plain_module g) IsShallow (λ m e. subst IsShallow (sym e) (shallow g)) c.build.ensures
 
 pub returns-clause-wires : goal.returns-clause-wires
 returns-clause-wires c =

@@ -1,0 +1,65 @@
+use Rattle.std.proofs.Common.{◌≡◌, ap, sym, ◌∙◌, arith, subst, map, false, length, vec_len, vec_capacity}
+use Rattle.std.proofs.lemmas.List.{length-map, length-replicate}
+use Rattle.verilog_text.specs.Circuit.{Circuit}
+use Rattle.verilog_text.specs.Meaning.{levels_at}
+use Rattle.rl_time.specs.Time.{has_risen}
+use Rattle.cycle_sim.specs.Standing.{IsStep}
+use Rattle.cycle_sim.specs.Digits.{with_digits}
+use Rattle.cycle_sim.proofs.Grown.{no_cycles, one_row_each, has_room, one_more_cycle, refilled, length_from_map}
+use Rattle.cycle_sim.proofs.running.simulate.Goals as goal
+
+pub loop-cycle-init : goal.loop-cycle-init
+loop-cycle-init c =
+    no_cycles (λ row. row.items) (λ row. vec_capacity row) c.args.m.now c.args.rises.now c.args.cycles c.in_ok-sim.sim.circuit
+    c.in_ok-sim.sim.state c.in_ok-levels.levels.items c.in_ok-rows.rows.items (c.histories_grow_at_the_end.ensures.empty c.args.m.now)
+    c.in_ok-sim.ensures.before_cycle_0 c.in_ok-sim.ensures.same_module
+    (ap (λ z. length z) c.in_ok-levels.ensures ∙ length-replicate (length c.args.rises.now) false)
+    (rw (sym c.outputs.ensures) c.in_ok-rows.ensures.empty) (rw (sym c.outputs.ensures) c.in_ok-rows.ensures.capacity)
+
+pub push_digits-requires-clause-one_for_each_output : goal.push_digits-requires-clause-one_for_each_output
+push_digits-requires-clause-one_for_each_output c =
+    let before = c.loop-cycle.invariant in
+    rw c.deref_mut-in-loop-cycle.ensures.value (
+    one_row_each (λ row. row.items) (λ row. vec_capacity row) c.args.m.now c.args.rises.now c.args.cycles c.loop-cycle.cycle
+    c.loop-cycle.sim.circuit c.loop-cycle.sim.state c.loop-cycle.levels.items c.loop-cycle.rows.items before
+    ∙ ap (λ (m : Circuit). length m.outputs) (sym (c.step.ensures.same_module ∙ before.same_module)))
+
+pub push_digits-requires-clause-few_outputs : goal.push_digits-requires-clause-few_outputs
+push_digits-requires-clause-few_outputs c =
+    rw c.deref_mut-in-loop-cycle.ensures.value (omega (
+      arith,
+      c.rules.ensures.few_outputs,
+      one_row_each (λ row. row.items) (λ row. vec_capacity row) c.args.m.now c.args.rises.now c.args.cycles c.loop-cycle.cycle
+          c.loop-cycle.sim.circuit c.loop-cycle.sim.state c.loop-cycle.levels.items c.loop-cycle.rows.items c.loop-cycle.invariant,
+    ))
+
+pub push_digits-requires-clause-room : goal.push_digits-requires-clause-room
+push_digits-requires-clause-room c =
+    rw c.deref_mut-in-loop-cycle.ensures.value (
+    has_room (λ row. row.items) (λ row. vec_capacity row) (λ row. vec_len row) c.args.m.now c.args.rises.now c.args.cycles
+    c.loop-cycle.cycle c.loop-cycle.sim.circuit c.loop-cycle.sim.state c.loop-cycle.levels.items c.loop-cycle.rows.items
+    (λ row. row.ok.0) c.loop-cycle.invariant (omega (arith, c.loop-cycle-test.true)))
+
+pub loop-cycle-preserved : goal.loop-cycle-preserved
+loop-cycle-preserved c =
+    let m = c.args.m.now in
+    let rises = c.args.rises.now in
+    let cycle = c.loop-cycle.cycle in
+    let levels = c.loop-cycle.levels in
+    let rows = c.loop-cycle.rows in
+    let before = c.loop-cycle.invariant in
+    let set : c.set_levels.new.levels ≡ levels_at rises cycle = c.set_levels.ensures ∙ ap (λ n. levels_at rises n) c.from.ensures in
+    let long : levels.len ≡ length c.set_levels.new.levels =
+    levels.ok.0 ∙ (before.one_level_each ∙ (sym (length-map rises (λ a. has_risen a cycle)) ∙ ap (λ z. length z) (sym set))) in
+    let same : map (λ row. vec_capacity row) c.push_digits.new.rows ≡ map (λ row. vec_capacity row) rows.items =
+    c.push_digits.ensures.capacity ∙ ap (λ z. map (λ row. vec_capacity row) z) c.deref_mut-in-loop-cycle.ensures.value in
+    let rows_are = refilled rows.len rows.items c.push_digits.new.rows (rows.ok.0 ∙ length_from_map (λ row. vec_capacity row) rows.items c.push_digits.new.rows (sym same)) in
+    let digits : map (λ row. row.items) c.push_digits.new.rows ≡ with_digits c.step.new.self.state 0 (map (λ row. row.items) rows.items) =
+    c.push_digits.ensures.digits ∙ ap (λ z. with_digits c.step.new.self.state 0 (map (λ row. row.items) z)) c.deref_mut-in-loop-cycle.ensures.value in
+    let levels_are = refilled levels.len levels.items c.set_levels.new.levels long in
+    let step = subst (λ z. IsStep c.loop-cycle.sim.circuit c.loop-cycle.sim.state c.step.new.self.state z) c.deref.ensures.value c.step.ensures.next_cycle in
+    one_more_cycle (λ row. row.items) (λ row. vec_capacity row) m rises c.args.cycles cycle c.loop-cycle.sim.circuit c.step.new.self.circuit
+    c.loop-cycle.sim.state c.step.new.self.state levels.items _ rows.items _ before
+    (λ us states inputs. c.histories_grow_at_the_end.ensures.grown m us states inputs c.loop-cycle.sim.state c.step.new.self.state)
+    (c.levels_grow_at_the_end.ensures rises cycle) (levels_are ∙ set) c.step.ensures.same_module step
+    (ap (λ z. map (λ row. row.items) z) rows_are ∙ digits) (ap (λ z. map (λ row. vec_capacity row) z) rows_are ∙ same)

@@ -1,0 +1,7 @@
+use Rattle.std.proofs.Common.{vec_capacity}
+use Rattle.cycle_sim.proofs.Grown.{HaveRun}
+use Rattle.cycle_sim.proofs.running.simulate.Given as goal
+
+abbrev pub invariant-loop-cycle : goal.invariant-loop-cycle
+invariant-loop-cycle l =
+    HaveRun (λ row. row.items) (λ row. vec_capacity row) l.m l.rises l.cycles l.cycle l.sim.circuit l.sim.state l.levels.items l.rows.items

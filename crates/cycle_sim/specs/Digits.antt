@@ -1,0 +1,23 @@
+-- The levels of a module's outputs over a history, as texts of digits.
+use Rattle.std.specs.Prelude.{ℕ, ◌+◌, Bool, true, false, List, [], ◌∷◌, ◌++◌, map, slice_index_or, Option}
+use Rattle.std.specs.List.{range_with_len}
+use Rattle.verilog_text.specs.Meaning.{State}
+use Rattle.cycle_sim.specs.Standing.{output_level}
+
+-- the byte `0` for low and `1` for high
+abbrev pub digit : Bool → ℕ
+digit false = 48
+digit true = 49
+
+-- the digits of one output, one for each state
+abbrev pub output_digits : List State → ℕ → List ℕ
+output_digits states out = map (λ s. digit (slice_index_or s.outs out false)) states
+
+-- the digits of so many outputs, in order
+abbrev pub output_rows : ℕ → List State → List (List ℕ)
+output_rows outputs states = map (output_digits states) (range_with_len 0 outputs)
+
+-- the rows of the outputs from this one on, each with one more digit: its output's level in the cycle
+abbrev pub with_digits : Option State → ℕ → List (List ℕ) → List (List ℕ)
+with_digits state out [] = []
+with_digits state out (row ∷ rows) = (row ++ digit (output_level state out) ∷ []) ∷ with_digits state (out + 1) rows

@@ -1,0 +1,95 @@
+ghost use Rattle.std.specs.Prelude.{◌≡◌, ◌<◌, ◌≤◌, [], List, length, map, replicate, vec_len, vec_capacity, All, IfOk, IsSome};
+ghost use Rattle.rl_time.specs.Time as times;
+ghost use Rattle.verilog_text.specs.Meaning.{State, IsHistory, levels_at, levels_from};
+ghost use Rattle.cycle_sim.specs.Digits as spec;
+ghost use Rattle.cycle_sim.specs.Digits.{output_rows, with_digits};
+
+use crate::laws;
+use crate::row::all_low;
+use crate::sim::Sim;
+use rl_time::{NoMemory, Time};
+use std::alloc::Global;
+use verilog_text::Module;
+
+/// The levels of each output of a module in the first cycles after reset, where each input rises at its time and
+/// stays high: for each output in order one digit `0` or `1` a cycle, from cycle 0 on.
+///
+/// It takes all its memory before cycle 0, and time in proportion to the module and the number of cycles.
+pub fn simulate(
+    alloc: Global,
+    m: &Module,
+    rises: &[Time],
+    cycles: u32,
+) -> Result<Vec<Vec<u8>>, NoMemory>
+    requires one_for_each_input { length rises.now ≡ length m.now.inputs }
+    requires some_cycles { 1 ≤ cycles }
+    requires few_cycles { cycles ≤ 100000 }
+    ensures { IfOk result (λ rows. (states : List State) × IsHistory m.now (levels_from rises.now 0 cycles) states
+        × (map (λ row. row.items) rows.items ≡ output_rows (length m.now.outputs) states)) }
+{
+    laws::histories_grow_at_the_end();
+    laws::levels_grow_at_the_end();
+    m.rules();
+    let mut rows = empty_rows(alloc, m.outputs().len(), cycles as usize)?;
+    let mut levels = all_low(alloc, rises.len())?;
+    let mut sim = Sim::new(alloc, m)?;
+    for cycle in 0..cycles {
+        set_levels(&mut levels, rises, u64::from(cycle));
+        sim.step(&levels);
+        push_digits(&sim, &mut rows);
+    }
+    Ok(rows)
+}
+
+/// So many empty rows, each with room for a digit a cycle.
+fn empty_rows(alloc: Global, count: usize, cycles: usize) -> Result<Vec<Vec<u8>>, NoMemory>
+    ensures empty { IfOk result (λ rows. map (λ row. row.items) rows.items ≡ replicate count []) }
+    ensures capacity { IfOk result (λ rows. map (λ row. vec_capacity row) rows.items ≡ replicate count cycles) }
+{
+    let mut rows = Vec::with_capacity(alloc, count)?;
+    for _ in 0..count {
+        rows.push(Vec::with_capacity(alloc, cycles)?)?;
+    }
+    Ok(rows)
+}
+
+/// Puts the levels of inputs that rise at these times in a cycle into this room.
+fn set_levels(levels: &mut [bool], rises: &[Time], cycle: u64)
+    requires { length levels.old ≡ length rises.now }
+    ensures { levels.new ≡ levels_at rises.now cycle }
+{
+    for (place, rise) in rises.iter().enumerate() {
+        levels[place] = has_risen(*rise, cycle);
+    }
+}
+
+/// Whether a wire that rises at this time is high in a cycle.
+fn has_risen(rise: Time, cycle: u64) -> bool
+    ensures { result ≡ times.has_risen rise cycle }
+{
+    match rise {
+        Time::At(start) => start <= cycle,
+        Time::Never => false,
+    }
+}
+
+/// Adds each output's digit in this cycle to its row.
+fn push_digits(sim: &Sim, rows: &mut [Vec<u8>])
+    requires in_a_cycle { IsSome sim.now.state }
+    requires one_for_each_output { length rows.old ≡ length sim.now.circuit.outputs }
+    requires few_outputs { length rows.old ≤ 64 }
+    requires room { All (λ row. vec_len row < vec_capacity row) rows.old }
+    ensures digits { map (λ row. row.items) rows.new ≡ with_digits sim.now.state 0 (map (λ row. row.items) rows.old) }
+    ensures capacity { map (λ row. vec_capacity row) rows.new ≡ map (λ row. vec_capacity row) rows.old }
+{
+    for out in 0..rows.len() {
+        rows[out].push_reserved(digit(sim.level(out as u32)));
+    }
+}
+
+/// The digit `1` for high, `0` for low.
+fn digit(level: bool) -> u8
+    ensures { result ≡ spec.digit level }
+{
+    if level { b'1' } else { b'0' }
+}

@@ -1,0 +1,14 @@
+pub mod Numbers
+pub mod Places
+pub mod Looked
+pub mod Growing
+pub mod Meanings
+pub mod Ports
+pub mod Sound
+pub mod Kept
+pub mod Verdicts
+pub mod Assigned
+pub mod Zeros
+pub mod Finished
+pub mod Reached
+pub mod Read

@@ -1,0 +1,173 @@
+-- What the reader keeps of the statements so far.
+use Rattle.std.specs.Prelude.{◌≡◌, ◌≤◌, ◌<◌, ℕ, ◌+◌, Bool, true, false, not, ◌&&◌, ◌||◌, nat_lt, List, length, map, count_by, slice_get, slice_index_or, slice_set, Option, Some, None, is_some, Result, Ok, Err, bytes_eq}
+use Rattle.std.specs.List.{list_all, list_any}
+use Rattle.verilog_text.specs.declared.bit.Target.{Target}
+use Rattle.verilog_text.specs.declared.bit.Target.TheVariants as target
+use Rattle.verilog_text.specs.Circuit.{Logic, Assignment, Register, Circuit, names_wire}
+use Rattle.verilog_text.specs.Names.{in_name, out_name, is_port_name, is_own_name}
+use Rattle.verilog_text.specs.Valid.{IsTarget, IsInRange, IsValid}
+use Rattle.verilog_text.specs.Statements.{Statement}
+use Rattle.verilog_text.specs.Spelling.{AllStand}
+use Rattle.verilog_read.specs.declared.error.VerilogError.{VerilogError}
+use Rattle.verilog_read.specs.Outcome.{IsFirstBroken}
+use Rattle.verilog_text.specs.Grammar.{Form, Header, Expression, Next}
+use Rattle.verilog_text.specs.Judging.{SoFar, nothing_yet, Declared, Meaning, ClockOrReset, InputAt, OutputAt, WireAt, RegAt, found, bits_of, is_clock_or_reset, is_input_port, is_output_port, is_next, register_of, is_given, first_rule, after, module_of, has_form, zero_bits, target_of, expression_of}
+use Rattle.verilog_read.specs.declared.draft.Draft as source
+use Rattle.verilog_read.specs.declared.scope.Meaning as source_meaning
+use Rattle.verilog_read.specs.declared.scope.Meaning.TheVariants as m
+use Rattle.verilog_read.specs.declared.draft.StepError.{StepError}
+use Rattle.verilog_read.specs.declared.draft.StepError.TheVariants.{Broken, NoMemory}
+use Rattle.verilog_read.specs.Known.{find, meaning_found, is_reg, knows_by, given_by, names_reg_by}
+
+-- ---- statements that break no rule
+
+-- the place that a name stands for is one of the module's
+abbrev pub HasPlace : SoFar → Meaning → Type 0
+HasPlace x ClockOrReset = Unit {0}
+HasPlace x (InputAt i) = i < length x.inputs
+HasPlace x (OutputAt o) = o < length x.outputs
+HasPlace x (WireAt w) = w < length x.wires
+HasPlace x (RegAt r) = r < length x.regs
+
+-- each of the names passes the test, and stands for its place
+abbrev pub AreNamed : SoFar → (List ℕ → List ℕ) → (List ℕ → Bool) → (ℕ → Meaning) → List (List ℕ) → Type 0
+AreNamed x whole test meaning names = (k : ℕ) (n : List ℕ) → slice_get names k ≡ Some n →
+    (test n ≡ true) × (found (whole n) x.entries ≡ Some (meaning k))
+
+-- what a register takes names what the module has
+abbrev pub NextInRange : Circuit → Option Logic → Type 0
+NextInRange m None = Unit {0}
+NextInRange m (Some bit) = IsInRange m bit
+
+-- a register by its place
+pub record IsRegister (x : SoFar) (k : ℕ) (r : Declared) : Type 0 where
+  pub own : is_own_name r.name ≡ true
+  pub named : found r.name x.entries ≡ Some (RegAt k)
+  pub some_bit : 1 ≤ r.width
+  pub few_bits : r.width ≤ 65536
+  pub next : NextInRange (module_of x) r.next
+
+-- an assign by its place
+pub record IsAssign (x : SoFar) (k : ℕ) (a : Assignment) : Type 0 where
+  pub has_target : IsTarget (module_of x) a.target
+  pub in_range : IsInRange (module_of x) a.bit
+  pub once : (j : ℕ) (b : Assignment) → slice_get x.assigns j ≡ Some b → a.target ≡ b.target → k ≡ j
+  pub earlier : (w : ℕ) → names_wire a.bit w ≡ true →
+      (i : ℕ) × (b : Assignment) × (i < k) × (slice_get x.assigns i ≡ Some b) × (b.target ≡ target.Wire w)
+
+-- what is true of statements that break no rule
+pub record IsSound (x : SoFar) : Type 0 where
+  pub few_inputs : count_by is_input_port x.to_declare + length x.inputs ≤ 64
+  pub few_outputs : count_by is_output_port x.to_declare + length x.outputs ≤ 64
+  pub few_wires : length x.wires ≤ 65536
+  pub few_bits : bits_of x.regs ≤ 65536
+  pub few_regs : length x.regs ≤ bits_of x.regs
+  pub places : (n : List ℕ) (m : Meaning) → found n x.entries ≡ Some m → HasPlace x m
+  pub inputs : AreNamed x in_name is_port_name InputAt x.inputs
+  pub outputs : AreNamed x out_name is_port_name OutputAt x.outputs
+  pub wires : AreNamed x (λ n. n) is_own_name WireAt x.wires
+  pub regs : (k : ℕ) (r : Declared) → slice_get x.regs k ≡ Some r → IsRegister x k r
+  pub assigns : (k : ℕ) (a : Assignment) → slice_get x.assigns k ≡ Some a → IsAssign x k a
+
+-- ---- what a draft is of
+
+-- the flags of the places below n say what f says
+pub record AreFlags (flags : List Bool) (n : ℕ) (f : ℕ → Bool) : Type 0 where
+  pub len : length flags ≡ n
+  pub each : (k : ℕ) → k < n → slice_index_or flags k false ≡ f k
+
+-- the draft is of these statements, which break no rule
+pub record IsDraft (d : source.Draft) (x : SoFar) : Type 0 where
+  pub to_declare : map (λ p. p.now) d.to_declare.now ≡ x.to_declare
+  pub names : (t : List ℕ) → meaning_found (find d.scope t) ≡ found t x.entries
+  pub inputs : d.inputs.items ≡ x.inputs
+  pub outputs : d.outputs.items ≡ x.outputs
+  pub wires : d.wires.items ≡ x.wires
+  pub regs : d.regs.items ≡ map register_of x.regs
+  pub assigns : d.assigns.items ≡ x.assigns
+  pub given_wires : AreFlags d.given_wires.items (length x.wires) (λ w. is_given x.assigns (target.Wire w))
+  pub given_outputs : AreFlags d.given_outputs.items (length x.outputs) (λ o. is_given x.assigns (target.Out o))
+  pub updated : d.updated.items ≡ map (λ r. is_some r.next) x.regs
+  pub bits : d.bits ≡ bits_of x.regs
+  pub sound : IsSound x
+
+-- the draft is of some statements
+abbrev pub IsOfSome : source.Draft → Type 0
+IsOfSome d = (x : SoFar) × IsDraft d x
+
+-- a statement that breaks no rule leads from one draft to the other
+abbrev pub Adds : source.Draft → Form → source.Draft → Type 0
+Adds old f new = (x : SoFar) → IsDraft old x → first_rule x f ≡ None → IsDraft new (after x f)
+
+-- the statement breaks no rule, and the draft has it more; or it breaks this rule first
+abbrev pub Judges : source.Draft → Form → source.Draft → Result (Unit {0}) StepError → Type 0
+Judges old f new (Ok u) = (x : SoFar) → IsDraft old x → (first_rule x f ≡ None) × IsDraft new (after x f)
+Judges old f new (Err (Broken r)) = (x : SoFar) → IsDraft old x → first_rule x f ≡ Some r
+Judges old f new (Err NoMemory) = Unit {0}
+
+-- a header is the first statement; any other stands behind some
+abbrev pub IsReady : source.Draft → Form → Type 0
+IsReady d (Header n ports) = IsDraft d nothing_yet
+IsReady d _ = IsOfSome d
+
+-- all statements break no rule, and the draft is of them, whose module is valid; or the error is the first broken rule
+abbrev pub IsWhole : List Statement → Result source.Draft VerilogError → Type 0
+IsWhole ss (Ok d) = (x : SoFar) × AllStand nothing_yet ss x × IsDraft d x × IsValid (module_of x)
+IsWhole ss (Err e) = IsFirstBroken ss e
+
+-- ---- rules by a draft
+
+abbrev pub is_misnamed_by : source.Draft → List ℕ → Bool
+is_misnamed_by d n = nat_lt 40 (length n) || is_some (find d.scope n)
+
+abbrev pub is_misplaced_by : source.Draft → List ℕ → Bool
+is_misplaced_by d n =
+    not (is_next n (map (λ p. p.now) d.to_declare.now)) || nat_lt 0 (length d.wires.items) || nat_lt 0 (length d.regs.items)
+
+abbrev pub input_misnamed_by : source.Draft → List ℕ → Bool
+input_misnamed_by d n = is_misnamed_by d n || is_misplaced_by d n || not (is_clock_or_reset n || is_input_port n)
+
+abbrev pub output_misnamed_by : source.Draft → List ℕ → Bool
+output_misnamed_by d n = is_misnamed_by d n || is_misplaced_by d n || not (is_output_port n)
+
+abbrev pub own_misnamed_by : source.Draft → List ℕ → Bool
+own_misnamed_by d n =
+    is_misnamed_by d n || not (is_own_name n) || list_any (λ p. bytes_eq n p.now) d.to_declare.now
+
+-- an assign gives the target, by the flags of wires and outputs
+abbrev pub is_assigned_by : List Bool → List Bool → Option Target → Bool
+is_assigned_by wires outputs None = false
+is_assigned_by wires outputs (Some (target.Wire w)) = slice_index_or wires w false
+is_assigned_by wires outputs (Some (target.Out o)) = slice_index_or outputs o false
+
+abbrev pub is_update_reg : Option Register → List ℕ → List ℕ → Next → Bool
+is_update_reg None z s e = true
+is_update_reg (Some r) z s e = bytes_eq s r.name && bytes_eq z (zero_bits r.width) && has_form r.name r.width e
+
+-- these registers, where the one at this place takes this
+abbrev pub set_register : ℕ → Option Register → Logic → List Register → List Register
+set_register k None bit regs = regs
+set_register k (Some r) bit regs = slice_set regs k (record r { next = bit })
+
+-- a port has no declaration, or a flag is not set
+abbrev pub is_unfinished_by : source.Draft → Bool
+is_unfinished_by d =
+    nat_lt 0 (length d.to_declare.now) || not (list_all (λ b. b) d.given_wires.items)
+    || not (list_all (λ b. b) d.given_outputs.items) || not (list_all (λ b. b) d.updated.items)
+
+abbrev pub assign_misnamed_by : source.Draft → List ℕ → Expression → Bool
+assign_misnamed_by d n e = not (is_some (target_of (meaning_found (find d.scope n)))) || not (knows_by (find d.scope) e)
+
+abbrev pub assign_misordered_by : source.Draft → List ℕ → Expression → Bool
+assign_misordered_by d n e =
+    not (given_by (find d.scope) d.given_wires.items e)
+    || is_assigned_by d.given_wires.items d.given_outputs.items (target_of (meaning_found (find d.scope n)))
+
+abbrev pub always_misnamed_by : source.Draft → List ℕ → List ℕ → Next → Bool
+always_misnamed_by d r s e =
+    not (is_reg (find d.scope r)) || not (is_reg (find d.scope s)) || not (names_reg_by (find d.scope) e)
+    || not (knows_by (find d.scope) (expression_of e))
+
+abbrev pub update_at : List Register → Option source_meaning.Meaning → List ℕ → List ℕ → Next → Bool
+update_at regs (Some (m.Reg r)) z s e = is_update_reg (slice_get regs r) z s e
+update_at regs _ z s e = true

@@ -1,0 +1,252 @@
+//! Assign and always statements.
+ghost use Rattle.std.specs.Prelude.{◌≡◌, ◌&&◌, ◌||◌, not, true, is_some, slice_get, slice_set, decimal, bytes_eq, OnOk};
+ghost use Rattle.verilog_text.specs.Grammar as g;
+ghost use Rattle.verilog_text.specs.Judging as j;
+ghost use Rattle.verilog_text.specs.View.{logic};
+ghost use Rattle.verilog_syntax.specs.View as v;
+ghost use Rattle.verilog_read.specs.Known.{find, meaning_found, is_reg, knows_by, given_by, is_flagged_reg, names_reg_by};
+ghost use Rattle.verilog_read.specs.Draft.{IsOfSome, Adds, Judges, is_assigned_by, is_update_reg, update_at, set_register, assign_misnamed_by, assign_misordered_by, always_misnamed_by};
+
+use crate::draft::{Draft, StepError};
+use crate::expressions::{are_given, fits_widths, is_set, knows, resolve};
+use crate::scope::{Meaning, Scope};
+use itoa::Buffer;
+use rl_text::Name;
+use rl_time::NoMemory;
+use std::alloc::Global;
+use verilog_syntax::{Always, Next, Written};
+use verilog_text::{Assign, Bit, Reg, Rule, Target};
+
+fn target_of(meaning: Option<Meaning>) -> Option<Target>
+    ensures { result ≡ j.target_of (meaning_found meaning) }
+{
+    match meaning {
+        Some(Meaning::Wire(w)) => Some(Target::Wire(w)),
+        Some(Meaning::Output(o)) => Some(Target::Out(o)),
+        _ => None,
+    }
+}
+
+fn is_assigned(draft: &Draft<'_, '_>, target: Option<Target>) -> bool
+    ensures { result ≡ is_assigned_by draft.now.given_wires.items draft.now.given_outputs.items target }
+{
+    match target {
+        Some(Target::Wire(w)) => is_set(&draft.given_wires, w),
+        Some(Target::Out(o)) => is_set(&draft.given_outputs, o),
+        None => false,
+    }
+}
+
+fn set_flag(flags: &mut Vec<bool>, place: u32)
+    ensures { flags.new.items ≡ slice_set flags.old.items place true }
+{
+    if let Some(flag) = flags.get_mut(place as usize) {
+        *flag = true;
+    }
+}
+
+fn assign_misnamed(draft: &Draft<'_, '_>, name: &[u8], written: &Written<'_>) -> bool
+    ensures { result ≡ assign_misnamed_by draft.now name.now (v.expression written.now) }
+{
+    let target = target_of(draft.scope.get(name));
+    target.is_none() || !knows(written, &draft.scope)
+}
+
+fn assign_misordered(draft: &Draft<'_, '_>, name: &[u8], written: &Written<'_>) -> bool
+    ensures { result ≡ assign_misordered_by draft.now name.now (v.expression written.now) }
+{
+    let target = target_of(draft.scope.get(name));
+    !are_given(written, &draft.scope, &draft.given_wires) || is_assigned(draft, target)
+}
+
+fn push_assign(
+    alloc: Global,
+    draft: &mut Draft<'_, '_>,
+    name: &[u8],
+    written: &Written<'_>,
+) -> Result<(), NoMemory>
+    ensures { OnOk result (Adds draft.old (g.Assign name.now (v.expression written.now)) draft.new) }
+{
+    let bit = resolve(alloc, written, &draft.scope)?;
+    match target_of(draft.scope.get(name)) {
+        Some(Target::Wire(w)) => {
+            draft.assigns.push(Assign::new(Target::Wire(w), bit))?;
+            set_flag(&mut draft.given_wires, w);
+        }
+        Some(Target::Out(o)) => {
+            draft.assigns.push(Assign::new(Target::Out(o), bit))?;
+            set_flag(&mut draft.given_outputs, o);
+        }
+        None => {}
+    }
+    Ok(())
+}
+
+pub fn read_assign(
+    alloc: Global,
+    draft: &mut Draft<'_, '_>,
+    name: &[u8],
+    written: &Written<'_>,
+) -> Result<(), StepError>
+    requires { IsOfSome draft.old }
+    ensures { Judges draft.old (g.Assign name.now (v.expression written.now)) draft.new result }
+{
+    if assign_misnamed(draft, name, written) {
+        return Err(StepError::Broken(Rule::Name));
+    }
+    if assign_misordered(draft, name, written) {
+        return Err(StepError::Broken(Rule::Order));
+    }
+    if !fits_widths(written, &draft.scope, &draft.regs) {
+        return Err(StepError::Broken(Rule::Width));
+    }
+    push_assign(alloc, draft, name, written)?;
+    Ok(())
+}
+
+fn is_reg(meaning: Option<Meaning>) -> bool
+    ensures { result ≡ is_reg meaning }
+{
+    match meaning {
+        Some(Meaning::Reg(_)) => true,
+        _ => false,
+    }
+}
+
+/// The expression that is written in what a register takes.
+fn expression_of<'b, 'a>(next: &'b Next<'a>) -> &'b Written<'a>
+    ensures { v.expression result.now ≡ j.expression_of (v.next next.now) }
+{
+    match next {
+        Next::Whole(written) => written,
+        Next::Shifted(_, _, written) => written,
+    }
+}
+
+fn names_reg(next: &Next<'_>, scope: &Scope<'_>) -> bool
+    ensures { result ≡ names_reg_by (find scope.now) (v.next next.now) }
+{
+    match next {
+        Next::Whole(_) => true,
+        Next::Shifted(name, _, _) => is_reg(scope.get(name)),
+    }
+}
+
+fn is_decimal(digits: &[u8], number: u32) -> bool
+    ensures { result ≡ bytes_eq digits.now (decimal number) }
+{
+    let mut buffer = Buffer::new();
+    digits == buffer.format(number).as_bytes()
+}
+
+/// Whether these are so many bits, all 0.
+fn are_zero_bits(bits: &[u8], width: u32) -> bool
+    ensures { result ≡ bytes_eq bits.now (j.zero_bits width) }
+{
+    match bits.strip_suffix(b"'b0") {
+        Some(digits) => is_decimal(digits, width),
+        None => false,
+    }
+}
+
+fn has_form(name: &[u8], width: u32, next: &Next<'_>) -> bool
+    ensures { result ≡ j.has_form name.now width (v.next next.now) }
+{
+    match next {
+        Next::Whole(_) => width == 1,
+        Next::Shifted(shifted, last, _) => {
+            1 < width && *shifted == name && is_decimal(last, width - 2)
+        }
+    }
+}
+
+fn is_update(reg: &Reg, always: &Always<'_>) -> bool
+    ensures { result ≡ is_update_reg (Some reg.now) always.now.zero.now always.now.update.now (v.next always.now.next) }
+{
+    let name = reg.name().bytes();
+    let width = reg.width();
+    always.update == name
+        && are_zero_bits(always.zero, width)
+        && has_form(name, width, &always.next)
+}
+
+fn is_update_at(draft: &Draft<'_, '_>, meaning: Option<Meaning>, always: &Always<'_>) -> bool
+    ensures { result ≡ update_at draft.now.regs.items meaning always.now.zero.now always.now.update.now (v.next always.now.next) }
+{
+    match meaning {
+        Some(Meaning::Reg(r)) => match draft.regs.get(r as usize) {
+            Some(reg) => is_update(reg, always),
+            None => true,
+        },
+        _ => true,
+    }
+}
+
+fn is_updated(draft: &Draft<'_, '_>, meaning: Option<Meaning>) -> bool
+    ensures { result ≡ is_flagged_reg draft.now.updated.items meaning }
+{
+    match meaning {
+        Some(Meaning::Reg(r)) => is_set(&draft.updated, r),
+        _ => false,
+    }
+}
+
+fn always_misnamed(draft: &Draft<'_, '_>, always: &Always<'_>) -> bool
+    ensures { result ≡ always_misnamed_by draft.now always.now.reset.now always.now.update.now (v.next always.now.next) }
+{
+    !is_reg(draft.scope.get(always.reset))
+        || !is_reg(draft.scope.get(always.update))
+        || !names_reg(&always.next, &draft.scope)
+        || !knows(expression_of(&always.next), &draft.scope)
+}
+
+/// The registers, where the one at this place takes this.
+fn set_next(alloc: Global, regs: &mut Vec<Reg>, place: u32, next: Bit) -> Result<(), NoMemory>
+    ensures { OnOk result (regs.new.items ≡ set_register place (slice_get regs.old.items place) (logic next) regs.old.items) }
+{
+    if let Some(reg) = regs.get_mut(place as usize) {
+        let name = Name::new(alloc, reg.name().bytes())?;
+        *reg = Reg::new(name, reg.width(), next);
+    }
+    Ok(())
+}
+
+fn push_always(
+    alloc: Global,
+    draft: &mut Draft<'_, '_>,
+    always: &Always<'_>,
+) -> Result<(), NoMemory>
+    ensures { OnOk result (Adds draft.old (g.Always always.now.reset.now always.now.zero.now always.now.update.now (v.next always.now.next)) draft.new) }
+{
+    let next = resolve(alloc, expression_of(&always.next), &draft.scope)?;
+    if let Some(Meaning::Reg(r)) = draft.scope.get(always.reset) {
+        set_next(alloc, &mut draft.regs, r, next)?;
+        set_flag(&mut draft.updated, r);
+    }
+    Ok(())
+}
+
+pub fn read_always(
+    alloc: Global,
+    draft: &mut Draft<'_, '_>,
+    always: &Always<'_>,
+) -> Result<(), StepError>
+    requires { IsOfSome draft.old }
+    ensures { Judges draft.old (g.Always always.now.reset.now always.now.zero.now always.now.update.now (v.next always.now.next)) draft.new result }
+{
+    if always_misnamed(draft, always) {
+        return Err(StepError::Broken(Rule::Name));
+    }
+    let reset = draft.scope.get(always.reset);
+    if is_updated(draft, reset) {
+        return Err(StepError::Broken(Rule::Order));
+    }
+    if !fits_widths(expression_of(&always.next), &draft.scope, &draft.regs) {
+        return Err(StepError::Broken(Rule::Width));
+    }
+    if !is_update_at(draft, reset, always) {
+        return Err(StepError::Broken(Rule::Width));
+    }
+    push_always(alloc, draft, always)?;
+    Ok(())
+}

@@ -1,0 +1,18 @@
+//! Reading modules: which module a text of a small part of Verilog spells, or which rule it breaks first.
+#![tactic(auto)]
+
+mod actions;
+mod declarations;
+mod draft;
+mod error;
+mod expressions;
+mod judging;
+mod names;
+mod reader;
+mod scope;
+
+pub use error::VerilogError;
+pub use reader::read_module;
+
+#[cfg(test)]
+mod tests;

@@ -1,0 +1,281 @@
+ghost use Rattle.std.specs.Prelude.{◌≤◌, length};
+
+use crate::error::VerilogError;
+use crate::reader::read_module;
+use std::alloc::Global;
+use std::process::Abort;
+use std::test::Fail;
+use verilog_text::print_module;
+
+const PORTS: &[u8] = b"module race(clk, rst, in_a, in_b, out_y);
+  input clk;
+  input rst;
+  input in_a;
+  input in_b;
+  output out_y;
+";
+
+const BODY: &[u8] = b"  wire w0;
+  reg d0;
+  reg [2:0] d1;
+  assign w0 = in_a & ~d0;
+  assign out_y = w0 | d1[2];
+  always @(posedge clk) if (rst) d0 <= 1'b0; else d0 <= in_b;
+  always @(posedge clk) if (rst) d1 <= 3'b0; else d1 <= {d1[1:0], in_a};
+endmodule
+";
+
+/// The text is read, and printed again it is the same.
+fn check_read(rt: &impl Abort, alloc: Global, text: &[u8]) -> Result<(), Fail>
+    requires { length text.now ≤ 16777216 }
+{
+    let module = read_module(alloc, text)?;
+    let printed = print_module(alloc, &module)?;
+    assert_eq!(rt; printed.as_slice(), text);
+    Ok(())
+}
+
+fn check_refused(rt: &impl Abort, alloc: Global, text: &[u8], error: VerilogError)
+    requires { length text.now ≤ 16777216 }
+{
+    assert_eq!(rt; read_module(alloc, text).err(), Some(error));
+}
+
+/// The ports and this body, whose first line is line 7, are refused.
+fn check_body(
+    rt: &impl Abort,
+    alloc: Global,
+    body: &[u8],
+    error: VerilogError,
+) -> Result<(), Fail> {
+    let mut text = PORTS.to_vec(alloc)?;
+    text.extend_from_slice(body)?;
+    assert!(rt; text.len() <= 10000);
+    check_refused(rt, alloc, &text, error);
+    Ok(())
+}
+
+#[test]
+fn a_module_is_read(rt: HostRuntime) -> Result<(), Fail> {
+    let alloc = rt.alloc();
+    let mut text = PORTS.to_vec(alloc)?;
+    text.extend_from_slice(BODY)?;
+    assert!(rt; text.len() <= 10000);
+    check_read(&rt, alloc, &text)
+}
+
+#[test]
+fn headers_are_judged(rt: HostRuntime) {
+    let alloc = rt.alloc();
+    let other_name = b"module rase(clk, rst, in_a, out_y);\nendmodule\n";
+    let other_clock = b"module race(clock, rst, in_a, out_y);\nendmodule\n";
+    let mixed = b"module race(clk, rst, out_y, in_a);\nendmodule\n";
+    let no_letter = b"module race(clk, rst, in_1, out_y);\nendmodule\n";
+    let no_output = b"module race(clk, rst, in_a);\nendmodule\n";
+    check_refused(&rt, alloc, other_name, VerilogError::Name(1));
+    check_refused(&rt, alloc, other_clock, VerilogError::Name(1));
+    check_refused(&rt, alloc, mixed, VerilogError::Name(1));
+    check_refused(&rt, alloc, no_letter, VerilogError::Name(1));
+    check_refused(&rt, alloc, no_output, VerilogError::Limit(1));
+}
+
+#[test]
+fn declarations_are_judged(rt: HostRuntime) -> Result<(), Fail> {
+    let alloc = rt.alloc();
+    let skipped = b"module race(clk, rst, in_a, out_y);\ninput rst;\nendmodule\n";
+    let missing = b"module race(clk, rst, in_a, out_y);\ninput clk;\nendmodule\n";
+    let early = b"module race(clk, rst, in_a, out_y);\nwire out_y;\nendmodule\n";
+    check_refused(&rt, alloc, skipped, VerilogError::Name(2));
+    check_refused(&rt, alloc, missing, VerilogError::Order(3));
+    check_refused(&rt, alloc, early, VerilogError::Name(2));
+    check_body(&rt, alloc, b"wire begin;\nendmodule", VerilogError::Name(7))?;
+    check_body(
+        &rt,
+        alloc,
+        b"wire a;\nreg a;\nendmodule",
+        VerilogError::Name(8),
+    )?;
+    check_body(&rt, alloc, b"wire in_a;\nendmodule", VerilogError::Name(7))?;
+    check_body(
+        &rt,
+        alloc,
+        b"reg [0:0] d;\nendmodule",
+        VerilogError::Width(7),
+    )?;
+    check_body(
+        &rt,
+        alloc,
+        b"reg [65536:0] d;\nendmodule",
+        VerilogError::Limit(7),
+    )?;
+    check_body(
+        &rt,
+        alloc,
+        b"reg [99999999999999999999:0] d;\nendmodule",
+        VerilogError::Limit(7),
+    )
+}
+
+#[test]
+fn assigns_are_judged(rt: HostRuntime) -> Result<(), Fail> {
+    let alloc = rt.alloc();
+    check_body(
+        &rt,
+        alloc,
+        b"assign w = in_a;\nendmodule",
+        VerilogError::Name(7),
+    )?;
+    check_body(
+        &rt,
+        alloc,
+        b"assign in_a = in_b;\nendmodule",
+        VerilogError::Name(7),
+    )?;
+    check_body(
+        &rt,
+        alloc,
+        b"assign out_y = clk;\nendmodule",
+        VerilogError::Name(7),
+    )?;
+    check_body(
+        &rt,
+        alloc,
+        b"assign out_y = in_a[0];\nendmodule",
+        VerilogError::Name(7),
+    )?;
+    check_body(
+        &rt,
+        alloc,
+        b"wire w;\nassign out_y = w;\nendmodule",
+        VerilogError::Order(8),
+    )?;
+    check_body(
+        &rt,
+        alloc,
+        b"wire w;\nassign w = w;\nendmodule",
+        VerilogError::Order(8),
+    )?;
+    let twice = b"assign out_y = in_a;\nassign out_y = in_b;\nendmodule";
+    check_body(&rt, alloc, twice, VerilogError::Order(8))?;
+    check_body(
+        &rt,
+        alloc,
+        b"reg d;\nassign out_y = d[0];\nendmodule",
+        VerilogError::Width(8),
+    )?;
+    check_body(
+        &rt,
+        alloc,
+        b"reg [1:0] d;\nassign out_y = d;\nendmodule",
+        VerilogError::Width(8),
+    )?;
+    check_body(
+        &rt,
+        alloc,
+        b"reg [1:0] d;\nassign out_y = d[2];\nendmodule",
+        VerilogError::Width(8),
+    )
+}
+
+#[test]
+fn always_statements_are_judged(rt: HostRuntime) -> Result<(), Fail> {
+    let alloc = rt.alloc();
+    let no_reg = b"wire d;\nalways @(posedge clk) if (rst) d <= 1'b0; else d <= in_a;\nendmodule";
+    let two_bits = b"reg d;\nalways @(posedge clk) if (rst) d <= 2'b0; else d <= in_a;\nendmodule";
+    let other =
+        b"reg d;\nreg e;\nalways @(posedge clk) if (rst) d <= 1'b0; else e <= in_a;\nendmodule";
+    let no_shift =
+        b"reg [1:0] d;\nalways @(posedge clk) if (rst) d <= 2'b0; else d <= in_a;\nendmodule";
+    let far_shift =
+        b"reg [1:0] d;\nalways @(posedge clk) if (rst) d <= 2'b0; else d <= {d[1:0], in_a};\nendmodule";
+    check_body(&rt, alloc, no_reg, VerilogError::Name(8))?;
+    check_body(&rt, alloc, two_bits, VerilogError::Width(8))?;
+    check_body(&rt, alloc, other, VerilogError::Width(9))?;
+    check_body(&rt, alloc, no_shift, VerilogError::Width(8))?;
+    check_body(&rt, alloc, far_shift, VerilogError::Width(8))
+}
+
+#[test]
+fn updates_come_once(rt: HostRuntime) -> Result<(), Fail> {
+    let alloc = rt.alloc();
+    let twice = b"reg d;
+always @(posedge clk) if (rst) d <= 1'b0; else d <= in_a;
+always @(posedge clk) if (rst) d <= 1'b0; else d <= in_b;
+endmodule";
+    check_body(&rt, alloc, twice, VerilogError::Order(9))
+}
+
+#[test]
+fn ends_are_judged(rt: HostRuntime) -> Result<(), Fail> {
+    let alloc = rt.alloc();
+    check_body(&rt, alloc, b"endmodule", VerilogError::Order(7))?;
+    check_body(
+        &rt,
+        alloc,
+        b"wire w;\nassign out_y = in_a;\nendmodule",
+        VerilogError::Order(9),
+    )?;
+    check_body(
+        &rt,
+        alloc,
+        b"reg d;\nassign out_y = in_a;\nendmodule",
+        VerilogError::Order(9),
+    )
+}
+
+#[test]
+fn rules_have_an_order(rt: HostRuntime) -> Result<(), Fail> {
+    let alloc = rt.alloc();
+    let name_and_order = b"wire w;\nassign out_y = w & v;\nendmodule";
+    let order_and_width = b"wire w;\nreg d;\nassign out_y = w & d[0];\nendmodule";
+    let name_and_limit = b"reg [65536:0] clk;\nendmodule";
+    check_body(&rt, alloc, name_and_order, VerilogError::Name(8))?;
+    check_body(&rt, alloc, order_and_width, VerilogError::Order(9))?;
+    check_body(&rt, alloc, name_and_limit, VerilogError::Name(7))
+}
+
+#[test]
+fn syntax_comes_first(rt: HostRuntime) -> Result<(), Fail> {
+    let alloc = rt.alloc();
+    check_body(
+        &rt,
+        alloc,
+        b"wire begin;\nwire w\nendmodule",
+        VerilogError::Syntax(8),
+    )?;
+    check_body(
+        &rt,
+        alloc,
+        b"wire begin;\nwire #;\nendmodule",
+        VerilogError::Syntax(8),
+    )
+}
+
+/// This piece, so many times more.
+fn put_pieces(text: &mut Vec<u8>, count: u32, piece: &[u8]) -> Result<(), Fail> {
+    for _ in 0..count {
+        text.extend_from_slice(piece)?;
+    }
+    Ok(())
+}
+
+/// 64 groups one inside another, each the first of 64 parts of the first of 64 products.
+#[test]
+fn deep_expressions_are_read(rt: HostRuntime) -> Result<(), Fail> {
+    let alloc = rt.alloc();
+    let mut parts = Vec::new(alloc);
+    put_pieces(&mut parts, 63, b" & in_a")?;
+    put_pieces(&mut parts, 63, b" | in_b")?;
+    let mut text = PORTS.to_vec(alloc)?;
+    text.extend_from_slice(b"assign out_y = ")?;
+    put_pieces(&mut text, 64, b"(")?;
+    text.extend_from_slice(b"in_a")?;
+    text.extend_from_slice(&parts)?;
+    parts.insert(0, b')')?;
+    put_pieces(&mut text, 64, &parts)?;
+    text.extend_from_slice(b";\nendmodule\n")?;
+    assert!(rt; text.len() <= 100000);
+    let module = read_module(alloc, &text)?;
+    assert_eq!(rt; module.assigns().len(), 1);
+    Ok(())
+}

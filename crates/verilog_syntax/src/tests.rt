@@ -1,0 +1,99 @@
+use crate::error::SyntaxError;
+use crate::parser::statements;
+use rl_text::{Style, lex, lexemes, line_at};
+use std::alloc::Global;
+use std::process::Abort;
+use std::test::Fail;
+
+// How many statements a text has, or 0 and the line at which none stands that may.
+fn outcome(rt: &impl Abort, alloc: Global, text: &[u8]) -> Result<(usize, u32), Fail> {
+    assert!(rt; text.len() <= 1048576);
+    let tokens = match lex(alloc, text, Style::Verilog) {
+        Ok(tokens) => tokens,
+        Err(_) => return Ok((0, 0)),
+    };
+    let words = lexemes(alloc, text, &tokens)?;
+    match statements(alloc, &words, line_at(text, text.len() as u32)) {
+        Ok(all) => Ok((all.len(), 0)),
+        Err(SyntaxError::At(line)) => Ok((0, line)),
+        Err(SyntaxError::NoMemory) => Ok((0, 0)),
+    }
+}
+
+#[test]
+fn statements_are_found(rt: HostRuntime) -> Result<(), Fail> {
+    let alloc = rt.alloc();
+    let cases: [(&str, usize, u32); 13] = [
+        ("module race(clk);endmodule", 2, 0),
+        ("module race ( clk ,rst ) ; // a\n/* b */ endmodule\n", 2, 0),
+        (
+            "module race(clk);\nreg [1:0] r;\nassign y = ~a & (b | r[1]) | 1'b0;\nendmodule\n",
+            4,
+            0,
+        ),
+        (
+            "module race(clk);\nalways @(posedge clk) if (rst) r <= 2'b0; else r <= {r[0:0], a};\nendmodule\n",
+            3,
+            0,
+        ),
+        ("", 0, 1),
+        ("module race();\nendmodule\n", 0, 1),
+        ("module race(clk);\n", 0, 2),
+        ("module race(clk);\nassign y = 01'b0;\nendmodule\n", 0, 2),
+        ("module race(clk);\nassign y = a[01];\nendmodule\n", 0, 2),
+        (
+            "module race(clk);\nassign y = a\nassign z = b;\nendmodule\n",
+            0,
+            2,
+        ),
+        ("module race(clk);\nreg [1:00] r;\nendmodule\n", 0, 2),
+        (
+            "module race(clk);\nassign y = a;\nwire w;\nendmodule\n",
+            0,
+            3,
+        ),
+        ("module race(clk);\nendmodule\nendmodule\n", 0, 2),
+    ];
+    for (text, count, line) in &cases {
+        let found = outcome(&rt, alloc, text.as_bytes())?;
+        assert_eq!(rt; found.0, *count);
+        assert_eq!(rt; found.1, *line);
+    }
+    Ok(())
+}
+
+// An assign of so many pieces before `a`, and so many behind it.
+fn repeated(alloc: Global, count: u32, before: &[u8], behind: &[u8]) -> Result<Vec<u8>, Fail> {
+    let mut text = b"module race(clk);\nassign y = ".to_vec(alloc)?;
+    for _ in 0..count {
+        text.extend_from_slice(before)?;
+    }
+    text.extend_from_slice(b"a")?;
+    for _ in 0..count {
+        text.extend_from_slice(behind)?;
+    }
+    text.extend_from_slice(b";\nendmodule\n")?;
+    Ok(text)
+}
+
+#[test]
+fn nesting_and_parts_end_at_64(rt: HostRuntime) -> Result<(), Fail> {
+    let alloc = rt.alloc();
+    let cases: [(u32, &str, &str, usize, u32); 8] = [
+        (64, "~", "", 3, 0),
+        (65, "~", "", 0, 2),
+        (64, "(", ")", 3, 0),
+        (65, "(", ")", 0, 2),
+        (63, "a & ", "", 3, 0),
+        (64, "a & ", "", 0, 2),
+        (63, "a | ", "", 3, 0),
+        (64, "a | ", "", 0, 2),
+    ];
+    for (count, before, behind, statements, line) in &cases {
+        let text = repeated(alloc, *count, before.as_bytes(), behind.as_bytes())?;
+        let found = outcome(&rt, alloc, &text)?;
+        assert_eq!(rt; found.0, *statements);
+        assert_eq!(rt; found.1, *line);
+    }
+    Ok(())
+}

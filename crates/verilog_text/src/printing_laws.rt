@@ -1,0 +1,12 @@
+//! Laws of printed modules.
+
+ghost use Rattle.verilog_text.specs.Circuit.{Circuit};
+ghost use Rattle.verilog_text.specs.Valid.{IsValid};
+ghost use Rattle.verilog_text.specs.Text.{module_text};
+ghost use Rattle.verilog_text.specs.Spelling.{SpellsModule};
+ghost use Rattle.verilog_text.specs.Printed.{IsShallow};
+
+/// The text of a module spells it, where at most 64 of `~` and `(` stand one inside another.
+pub fn printing_spells()
+    ensures { (m : Circuit) → IsValid m → IsShallow m → SpellsModule (module_text m) m }
+{}
