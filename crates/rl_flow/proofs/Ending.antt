@@ -4,7 +4,7 @@ use Rattle.std.specs.Prelude.{◌⊎◌, IsSomeAnd, OnOk, OnErr}
 use Rattle.rl_io.specs.Causes.{Rose}
 use Rattle.rl_io.specs.Files.{Files, OnFile, Adds}
 use Rattle.func_table.specs.Table.{Row}
-use Rattle.rl_flow.specs.Task.{Task, Compile, Eval, Synth, Tabulate, Command}
+use Rattle.rl_flow.specs.Task.{Task, Compile, Eval, Synth, Tabulate, Sim, Command}
 use Rattle.rl_flow.specs.Answers.{limit_of, IsText, CanBeDone, IsCause, IsTooLong, OnBytes, IsAnswer, Answers, WritesPart, PutsLine, HasCause, Leaves, Tells, EndsBy}
 use Rattle.rl_flow.specs.Refusal.{status_of, line_of}
 use Rattle.rl_flow.specs.declared.status.Status.{Status}
@@ -34,6 +34,7 @@ can Synth bytes text x = (x.table, x.read)
 can (Tabulate name window) bytes text x =
     let few = subst (λ (rows : List Row). length rows ≤ 256) x.is.rows_are x.is.few in
     (x.network, x.read, (x.is.place, x.is.named, x.is.in_reach, few))
+can (Sim cycles times) bytes text x = (x.circuit, x.read, x.one_for_each_input)
 
 -- a told file that was answered has no fault
 answered : NoFault → (told : Option Files) (c : Command) (bytes text : List ℕ) (f : Fault) → Tells told c.0 bytes → IsAnswer told c text → IsCause c.1 bytes f → ⊥

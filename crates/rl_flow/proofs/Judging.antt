@@ -29,7 +29,11 @@ use Rattle.rl_flow.specs.Sources.{IsNoNetwork, SpellsSoundTable, BreaksTable, Ha
 use Rattle.rl_flow.specs.Compiled.{NeedsManyBits}
 use Rattle.rl_flow.specs.Values.{HasOtherInputs}
 use Rattle.rl_flow.specs.Windows.{output_place, HasNoTable, CanBeWritten, CannotBeWritten}
-use Rattle.rl_flow.specs.Task.{Task, Compile, Eval, Synth, Tabulate}
+use Rattle.verilog_text.specs.declared.rule.Rule.{Rule as ModuleRule}
+use Rattle.verilog_text.specs.Circuit.{Circuit}
+use Rattle.verilog_text.specs.Spelling.{SpellsModule, IsBroken}
+use Rattle.rl_flow.specs.Levels.{IsNoModule, HasOtherPorts}
+use Rattle.rl_flow.specs.Task.{Task, Compile, Eval, Synth, Tabulate, Sim}
 use Rattle.rl_flow.specs.Answers.{CanBeDone, IsCause}
 use Rattle.rl_flow.specs.declared.fault.Fault.{Fault}
 use Rattle.rl_flow.specs.declared.fault.Fault.TheVariants as fault
@@ -216,6 +220,7 @@ tells f w n fault.TooManyRows x = (x, λ e. absurd (cc), refl)
 tells f w n (fault.Network r line) x = absurd x
 tells f w n (fault.Table r line) x = absurd x
 tells f w n (fault.Rows v) x = absurd x
+tells f w n (fault.Module r line) x = absurd x
 tells f w n (fault.TooManyBits k) x = absurd x
 tells f w n (fault.Inputs k) x = absurd x
 tells f w n fault.NoOutput x = absurd x
@@ -245,15 +250,40 @@ no_window_fault none name window n a can (inr x) =
     let p = tells (output_function n can.0) window (length n.inputs) a (subst (λ k. HasNoTable (output_function n k) window (length n.inputs) a) same x.2) in
     p.1 (none (output_function n can.0) window (length n.inputs) (error_of a) can.2 can.3 p.0)
 
+-- ---- modules
+
+abbrev pub OneModule : Type 0
+OneModule = (text : List ℕ) (m n : Circuit) → SpellsModule text m → SpellsModule text n → m ≡ n
+
+abbrev pub NoBrokenRule : Type 0
+NoBrokenRule = (text : List ℕ) (m : Circuit) (r : ModuleRule) (line : ℕ) → SpellsModule text m → IsBroken text r line → ⊥
+
+abbrev pub OneBrokenRule : Type 0
+OneBrokenRule = (text : List ℕ) (r s : ModuleRule) (k l : ℕ) → IsBroken text r k → IsBroken text s l → (r ≡ s) × (k ≡ l)
+
+same_fault : (r s : ModuleRule) (k l : ℕ) → r ≡ s → k ≡ l → fault.Module r k ≡ fault.Module s l
+same_fault r s k l e f = cc
+
+pub reads_modules : OneModule → NoBrokenRule → OneBrokenRule → IsReading SpellsModule IsNoModule
+reads_modules f g h = record {
+  one = f;
+  one_fault = λ bytes a b x y.
+      let same = h bytes x.0 y.0 x.1 y.1 x.3 y.3 in
+      x.2 ∙ (same_fault x.0 y.0 x.1 y.1 same.0 same.1 ∙ sym y.2);
+  not_both = λ bytes m a y x. g bytes m x.0 x.1 y x.3;
+}
+
 -- ---- tasks
 
 -- what the bytes of all tasks are read as
 pub record Readings : Type 0 where
   pub networks : IsReading SpellsNetwork IsNoNetwork
   pub tables : IsReading SpellsSoundTable IsNoTable
+  pub modules : IsReading SpellsModule IsNoModule
 
-pub readings : OneNetwork → NoCause → OneCause → OneTable → NoTableCause → OneTableCause → OneRowFault → NoRowFault → Readings
-readings f g h i j k one none = record { networks = reads_networks f g h; tables = reads_tables i j k one none }
+pub readings : OneNetwork → NoCause → OneCause → OneTable → NoTableCause → OneTableCause → OneRowFault → NoRowFault → OneModule → NoBrokenRule → OneBrokenRule → Readings
+readings f g h i j k one none l m n =
+    record { networks = reads_networks f g h; tables = reads_tables i j k one none; modules = reads_modules l m n }
 
 sources : Readings → IsReading SpellsSource IsNoSource
 sources h = reads_sources h.networks h.tables
@@ -267,6 +297,8 @@ one_fault h windows (Eval times) bytes a b x y =
 one_fault h windows Synth bytes a b x y = h.tables.one_fault bytes a b x y
 one_fault h windows (Tabulate name window) bytes a b x y =
     one_staged SpellsNetwork IsNoNetwork (CannotBeWritten name window) h.networks (one_window_fault windows name window) bytes a b x y
+one_fault h windows (Sim cycles times) bytes a b x y =
+    one_staged SpellsModule IsNoModule (HasOtherPorts times) h.modules (λ s f g u v. u.0 ∙ sym v.0) bytes a b x y
 
 pub no_fault : Readings → NoWindowCause →
     (task : Task) (bytes : List ℕ) (a : Fault) → CanBeDone task bytes → IsCause task bytes a → ⊥
@@ -277,3 +309,5 @@ no_fault h windows (Eval times) bytes a s x =
 no_fault h windows Synth bytes a s x = h.tables.not_both bytes s.0 a s.1 x
 no_fault h windows (Tabulate name window) bytes a s x =
     no_staged SpellsNetwork IsNoNetwork (CannotBeWritten name window) h.networks bytes s.0 a s.1 (no_window_fault windows name window s.0 a s.2) x
+no_fault h windows (Sim cycles times) bytes a s x =
+    no_staged SpellsModule IsNoModule (HasOtherPorts times) h.modules bytes s.0 a s.1 (λ other. other.1 (sym s.2)) x

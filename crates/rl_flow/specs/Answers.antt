@@ -4,11 +4,12 @@ use Rattle.std.specs.Map.{lookup}
 use Rattle.std.specs.Str.{bytes_eq}
 use Rattle.rl_io.specs.Causes.{Rose}
 use Rattle.rl_io.specs.Files.{Files, OnFile, Adds}
-use Rattle.rl_flow.specs.Task.{Task, Compile, Eval, Synth, Tabulate, Command}
+use Rattle.rl_flow.specs.Task.{Task, Compile, Eval, Synth, Tabulate, Sim, Command}
 use Rattle.rl_flow.specs.Compiled.{IsModuleText, CanBeCompiled, IsNotCompiled}
 use Rattle.rl_flow.specs.Values.{IsValueText, CanBeValued, IsNotValued}
 use Rattle.rl_flow.specs.Synthesised.{IsSynthesisText, CanBeSynthesised, IsNotSynthesised}
 use Rattle.rl_flow.specs.Windows.{IsWindowText, CanBeTabulated, IsNotTabulated}
+use Rattle.rl_flow.specs.Levels.{IsLevelText, CanBeSimulated, IsNotSimulated}
 use Rattle.rl_flow.specs.Refusal.{status_of, line_of}
 use Rattle.rl_flow.specs.declared.fault.Fault.{Fault}
 use Rattle.rl_flow.specs.declared.refusal.Refusal.{Refusal}
@@ -18,6 +19,7 @@ use Rattle.rl_flow.specs.declared.status.Status.TheVariants as end
 
 -- the most bytes that the file of a task may have
 abbrev pub limit_of : Task → ℕ
+limit_of (Sim cycles times) = 16777216
 limit_of _ = 1048576
 
 -- the text that a task makes of the bytes of a file
@@ -26,6 +28,7 @@ IsText Compile bytes text = IsModuleText bytes text
 IsText (Eval times) bytes text = IsValueText times bytes text
 IsText Synth bytes text = IsSynthesisText bytes text
 IsText (Tabulate name window) bytes text = IsWindowText name window bytes text
+IsText (Sim cycles times) bytes text = IsLevelText cycles times bytes text
 
 -- the bytes spell what the task wants, within the limits of the task
 abbrev pub CanBeDone : Task → List ℕ → Type 0
@@ -33,6 +36,7 @@ CanBeDone Compile bytes = CanBeCompiled bytes
 CanBeDone (Eval times) bytes = CanBeValued times bytes
 CanBeDone Synth bytes = CanBeSynthesised bytes
 CanBeDone (Tabulate name window) bytes = CanBeTabulated name window bytes
+CanBeDone (Sim cycles times) bytes = CanBeSimulated times bytes
 
 -- this fault of the bytes keeps the task from being done
 abbrev pub IsCause : Task → List ℕ → Fault → Type 0
@@ -40,6 +44,7 @@ IsCause Compile bytes f = IsNotCompiled bytes f
 IsCause (Eval times) bytes f = IsNotValued times bytes f
 IsCause Synth bytes f = IsNotSynthesised bytes f
 IsCause (Tabulate name window) bytes f = IsNotTabulated name window bytes f
+IsCause (Sim cycles times) bytes f = IsNotSimulated times bytes f
 
 -- where the shelf tells its files: the command's is longer than its limit
 abbrev pub IsTooLong : Option Files → Command → Type 0

@@ -6,6 +6,7 @@ pub mod Sources
 pub mod Values
 pub mod Synthesised
 pub mod Windows
+pub mod Levels
 pub mod Refusal
 pub mod Compiled
 pub mod Answers

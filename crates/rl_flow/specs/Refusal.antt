@@ -4,6 +4,8 @@ use Rattle.net_lang.specs.declared.reader.rules.Rule.{Rule}
 use Rattle.net_lang.specs.declared.reader.rules.Rule.TheVariants as rule
 use Rattle.func_table.specs.declared.reader.rules.Rule.{Rule as TableRule}
 use Rattle.func_table.specs.declared.reader.rules.Rule.TheVariants as table_rule
+use Rattle.verilog_text.specs.declared.rule.Rule.{Rule as ModuleRule}
+use Rattle.verilog_text.specs.declared.rule.Rule.TheVariants as module_rule
 use Rattle.causality.specs.declared.fault.RowFault.{RowFault}
 use Rattle.causality.specs.declared.fault.RowFault.TheVariants as row
 use Rattle.rl_flow.specs.declared.status.Status.{Status}
@@ -44,6 +46,14 @@ abbrev pub table_rule_text : TableRule → List ℕ
 table_rule_text table_rule.Syntax = codes "racelog: E30 file 1 line "
 table_rule_text table_rule.Count = codes "racelog: E31 file 1 line "
 
+-- the beginning of the line for a broken rule of modules
+abbrev pub module_rule_text : ModuleRule → List ℕ
+module_rule_text module_rule.Syntax = codes "racelog: E70 file 1 line "
+module_rule_text module_rule.Name = codes "racelog: E71 file 1 line "
+module_rule_text module_rule.Order = codes "racelog: E72 file 1 line "
+module_rule_text module_rule.Width = codes "racelog: E73 file 1 line "
+module_rule_text module_rule.Limit = codes "racelog: E74 file 1 line "
+
 -- the line for rows that aren't sound
 abbrev pub row_fault_line : RowFault → List ℕ
 row_fault_line (row.NoZero i) = numbered (codes "racelog: E32 file 1 row ") i
@@ -56,6 +66,7 @@ abbrev pub fault_line : Fault → List ℕ
 fault_line (fault.Network r line) = numbered (rule_text r) line
 fault_line (fault.Table r line) = numbered (table_rule_text r) line
 fault_line (fault.Rows f) = row_fault_line f
+fault_line (fault.Module r line) = numbered (module_rule_text r) line
 fault_line (fault.TooManyBits bits) = numbered (codes "racelog: E20 ") bits
 fault_line (fault.TooWide window) = numbered (codes "racelog: E40 ") window
 fault_line fault.TooManyRows = codes "racelog: E41 256\n"

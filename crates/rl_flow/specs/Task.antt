@@ -4,15 +4,17 @@ use Rattle.std.specs.Option.{option_map}
 use Rattle.std.specs.Str.{bytes_eq}
 use Rattle.std.specs.Str.Parse.{digits_value}
 use Rattle.rl_time.specs.declared.time.Time.{Time}
-use Rattle.rl_flow.specs.Words.{is_file_word, is_number_word, is_name_word, time_of, are_time_words}
+use Rattle.rl_flow.specs.Words.{is_file_word, is_number_word, is_cycles_word, is_name_word, time_of, are_time_words}
 
 -- what is to be done with a file: compile its source; evaluate its source at times; write the network of its table; write the
--- table of its network's output of this name, on times up to a number
+-- table of its network's output of this name, on times up to a number; simulate its module for some cycles, with inputs that
+-- rise at times
 pub data Task : Type 0 where
   Compile : Task
   Eval : List Time → Task
   Synth : Task
   Tabulate : List ℕ → ℕ → Task
+  Sim : ℕ → List Time → Task
 
 -- a file and what is to be done with it
 abbrev pub Command : Type 0
@@ -35,6 +37,12 @@ tabulate_task (a ∷ b ∷ c ∷ words) = None
 tabulate_task (a ∷ []) = None
 tabulate_task [] = None
 
+-- CYCLES TIME..
+abbrev pub sim_task : List (List ℕ) → Option Task
+sim_task (cycles ∷ times) =
+    if is_cycles_word cycles && are_time_words times then Some (Sim (digits_value 10 cycles) (map time_of times)) else None
+sim_task [] = None
+
 -- the task of a command's first word and of those behind its file
 abbrev pub task_of : List ℕ → List (List ℕ) → Option Task
 task_of command words =
@@ -42,9 +50,11 @@ task_of command words =
     else if bytes_eq command (codes "eval") then eval_task words
     else if bytes_eq command (codes "synth") then alone Synth words
     else if bytes_eq command (codes "tabulate") then tabulate_task words
+    else if bytes_eq command (codes "sim") then sim_task words
     else None
 
--- The command of the words, if they are one: `compile FILE`, `eval FILE TIME..`, `synth FILE` or `tabulate FILE NAME WINDOW`.
+-- The command of the words, if they are one: `compile FILE`, `eval FILE TIME..`, `synth FILE`, `tabulate FILE NAME WINDOW`
+-- or `sim FILE CYCLES TIME..`.
 unfoldable pub command_of : List (List ℕ) → Option Command
 command_of (command ∷ file ∷ words) =
     if is_file_word file then option_map (λ task. (file, task)) (task_of command words) else None

@@ -52,6 +52,10 @@ is_name_byte b = is_letter b || is_between 48 57 b || (b == 95)
 abbrev pub is_name_word : List ℕ → Bool
 is_name_word word = nat_le 1 (length word) && nat_le (length word) 32 && is_letter (slice_index_or word 0 0) && list_all is_name_byte word
 
+-- a word that writes a number of cycles: 1 to 100,000
+abbrev pub is_cycles_word : List ℕ → Bool
+is_cycles_word word = is_number_word 100000 word && nat_le 1 (digits_value 10 word)
+
 -- the words as lists of bytes
 abbrev pub texts_of : List (String Global) → List (List ℕ)
 texts_of words = map string_bytes words

@@ -3,7 +3,7 @@ ghost use Rattle.std.specs.List.{list_all};
 ghost use Rattle.std.specs.Option.{option_map};
 ghost use Rattle.spike_eval.specs.Early.{AreEarly};
 ghost use Rattle.rl_flow.specs.Words.{is_file_word, number_word, time_word, is_time_word, time_of, are_time_words, is_letter, is_name_byte, is_name_word, texts_of};
-ghost use Rattle.rl_flow.specs.Task.{Task, alone, eval_task, tabulate_task, task_of, command_of};
+ghost use Rattle.rl_flow.specs.Task.{Task, alone, eval_task, tabulate_task, sim_task, task_of, command_of};
 ghost use Rattle.rl_flow.specs.Request.{task, IsSmall};
 
 use crate::request::Request;
@@ -129,6 +129,21 @@ fn tabulate_request(words: &[String]) -> Option<Request<'_>>
     Some(Request::Tabulate(name.as_str(), window as u32))
 }
 
+/// The request of the words `CYCLES TIME..`.
+fn sim_request(words: &[String]) -> Option<Request<'_>>
+    ensures task { option_map task result ≡ sim_task (texts_of words.now) }
+    ensures small { IfSome result IsSmall }
+{
+    let [cycles, times @ ..] = words else {
+        return None;
+    };
+    let cycles = number_word(cycles.as_str(), 100_000)?;
+    if cycles == 0 || !are_time_words(times) {
+        return None;
+    }
+    Some(Request::Sim(cycles as u32, times))
+}
+
 /// The request of a command's first word and of those behind its file.
 fn request_of<'a>(command: &str, words: &'a [String]) -> Option<Request<'a>>
     ensures task { option_map task result ≡ task_of command.now (texts_of words.now) }
@@ -145,6 +160,9 @@ fn request_of<'a>(command: &str, words: &'a [String]) -> Option<Request<'a>>
     }
     if command == "tabulate" {
         return tabulate_request(words);
+    }
+    if command == "sim" {
+        return sim_request(words);
     }
     None
 }

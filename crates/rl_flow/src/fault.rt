@@ -9,6 +9,8 @@ pub enum Fault {
     Table(func_table::Rule, u32),
     /// The rows of the table are not sound (E32 to E35).
     Rows(RowFault),
+    /// The text is no module: the rule that it breaks first, and the line, from 1 (E70 to E74).
+    Module(verilog_text::Rule, u32),
     /// The terms need so many register bits, more than 65,536 (E20).
     TooManyBits(u64),
     /// There are so many inputs, and not so many times are given (E51).

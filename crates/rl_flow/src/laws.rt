@@ -7,6 +7,7 @@ ghost use Rattle.rl_flow.specs.declared.fault.Fault.{Fault};
 use causality::{one_row_fault, one_window_cause, sound_or_fault};
 use func_table;
 use net_lang;
+use verilog_text::spelling_laws;
 
 /// For each task, bytes have at most one fault for which they are refused.
 pub fn one_fault()
@@ -21,6 +22,9 @@ pub fn one_fault()
     sound_or_fault();
     one_row_fault();
     one_window_cause();
+    spelling_laws::one_module();
+    spelling_laws::no_broken_rule();
+    spelling_laws::one_broken_rule();
 }
 
 /// Bytes for which a task can be done have no fault for which they are refused.
@@ -36,4 +40,7 @@ pub fn no_fault()
     sound_or_fault();
     one_row_fault();
     one_window_cause();
+    spelling_laws::one_module();
+    spelling_laws::no_broken_rule();
+    spelling_laws::one_broken_rule();
 }

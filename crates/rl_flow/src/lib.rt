@@ -5,6 +5,7 @@ mod command;
 mod compile;
 mod fault;
 pub mod laws;
+mod levels;
 mod reading;
 mod refusal;
 mod request;

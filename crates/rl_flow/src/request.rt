@@ -9,4 +9,6 @@ pub enum Request<'a> {
     Synth,
     /// Write the table of its network's output of this name, on times up to this number.
     Tabulate(&'a str, u32),
+    /// Simulate its module for so many cycles, with inputs that rise at the times that these words write.
+    Sim(u32, &'a [String]),
 }

@@ -15,6 +15,7 @@ ghost use Rattle.rl_flow.specs.declared.refusal.Refusal.TheVariants.{TooLong, Re
 use crate::command::{command, times};
 use crate::compile::translate;
 use crate::laws::{no_fault, one_fault};
+use crate::levels::levels_text;
 use crate::refusal::Refusal;
 use crate::request::Request;
 use crate::status::Status;
@@ -24,9 +25,6 @@ use crate::values::evaluate;
 use crate::window::tabulate_output;
 use rl_io::{LoadError, Shelf, Sink, load, put_all};
 use std::alloc::Global;
-
-/// The most bytes that a file may have.
-const LIMIT: u64 = 1048576;
 
 /// The bytes of a file, of at most so many.
 fn load_file<S: Shelf>(
@@ -50,9 +48,19 @@ fn load_file<S: Shelf>(
     }
 }
 
+/// The most bytes that the file of a request may have.
+fn limit(request: Request<'_>) -> u64
+    ensures { result ≡ limit_of (task request.entry) }
+{
+    match request {
+        Request::Compile | Request::Eval(_) | Request::Synth | Request::Tabulate(_, _) => 1048576,
+        Request::Sim(_, _) => 16777216,
+    }
+}
+
 /// The text that a request makes of a file's bytes.
 fn text_of(alloc: Global, request: Request<'_>, bytes: &[u8]) -> Result<Vec<u8>, Refusal>
-    requires short { length bytes.now ≤ 1048576 }
+    requires short { length bytes.now ≤ limit_of (task request) }
     requires small { IsSmall request }
     ensures text { IfOk result (λ text. IsText (task request.entry) bytes.now text.items) }
     ensures cause { IfErr result (IsUnreadable (IsCause (task request.entry) bytes.now)) }
@@ -65,6 +73,10 @@ fn text_of(alloc: Global, request: Request<'_>, bytes: &[u8]) -> Result<Vec<u8>,
         }
         Request::Synth => synthesise(alloc, bytes),
         Request::Tabulate(name, window) => tabulate_output(alloc, bytes, name.as_bytes(), window),
+        Request::Sim(cycles, words) => {
+            let times = times(alloc, words)?;
+            levels_text(alloc, bytes, cycles, &times)
+        }
     }
 }
 
@@ -79,7 +91,7 @@ fn answer<S: Shelf>(alloc: Global, words: &[String], shelf: &mut S) -> Result<Ve
     let Some((file, request)) = command(words) else {
         return Err(Refusal::Words);
     };
-    let bytes = load_file(alloc, shelf, file, LIMIT)?;
+    let bytes = load_file(alloc, shelf, file, limit(request))?;
     text_of(alloc, request, bytes.as_slice())
 }
 

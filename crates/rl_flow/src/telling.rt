@@ -1,7 +1,7 @@
 ghost use Rattle.std.specs.Prelude.{◌≡◌, ℕ, ◌≤◌, ◌<◌, ◌++◌, length, take, OnOk, OnErr};
 ghost use Rattle.rl_io.specs.Causes.{Rose};
 ghost use Rattle.rl_io.specs.Files.{Adds};
-ghost use Rattle.rl_flow.specs.Refusal.{numbered, paired, rule_text, table_rule_text, row_fault_line, fault_line, line_of};
+ghost use Rattle.rl_flow.specs.Refusal.{numbered, paired, rule_text, table_rule_text, module_rule_text, row_fault_line, fault_line, line_of};
 
 use crate::fault::Fault;
 use crate::refusal::Refusal;
@@ -28,6 +28,18 @@ fn table_rule_text(rule: func_table::Rule) -> &'static [u8]
     match rule {
         func_table::Rule::Syntax => b"racelog: E30 file 1 line ",
         func_table::Rule::Count => b"racelog: E31 file 1 line ",
+    }
+}
+
+fn module_rule_text(rule: verilog_text::Rule) -> &'static [u8]
+    ensures { result.now ≡ module_rule_text rule }
+{
+    match rule {
+        verilog_text::Rule::Syntax => b"racelog: E70 file 1 line ",
+        verilog_text::Rule::Name => b"racelog: E71 file 1 line ",
+        verilog_text::Rule::Order => b"racelog: E72 file 1 line ",
+        verilog_text::Rule::Width => b"racelog: E73 file 1 line ",
+        verilog_text::Rule::Limit => b"racelog: E74 file 1 line ",
     }
 }
 
@@ -111,6 +123,7 @@ fn put_fault<K: Sink>(sink: &mut K, fault: Fault) -> Result<(), SinkFault>
         Fault::Network(rule, line) => put_numbered(sink, rule_text(rule), u64::from(line)),
         Fault::Table(rule, line) => put_numbered(sink, table_rule_text(rule), u64::from(line)),
         Fault::Rows(fault) => put_row_fault(sink, fault),
+        Fault::Module(rule, line) => put_numbered(sink, module_rule_text(rule), u64::from(line)),
         Fault::TooManyBits(bits) => put_numbered(sink, b"racelog: E20 ", bits),
         Fault::TooWide(window) => put_numbered(sink, b"racelog: E40 ", u64::from(window)),
         Fault::TooManyRows => put_all(sink, b"racelog: E41 256\n"),

@@ -168,6 +168,20 @@ fn expect(
     Ok(())
 }
 
+// What the words write, where they name one file, "f".
+fn output_of(rt: &impl Abort, alloc: Global, file: &[u8], words: &[&str]) -> Result<Vec<u8>, Fail> {
+    let mut files = Vec::new(alloc);
+    files.push((String::from_str(alloc, "f")?, file.to_vec(alloc)?))?;
+    assert!(rt; are_distinct(&files));
+    let mut shelf = MemShelf::new(files, 65536, Vec::new(alloc));
+    let mut out = MemSink::new(alloc, 262144, 65536, Vec::new(alloc))?;
+    let mut err = MemSink::new(alloc, 4096, 4096, Vec::new(alloc))?;
+    let words = texts(alloc, words)?;
+    let status = run(alloc, &words, &mut shelf, &mut out, &mut err);
+    assert_eq!(rt; status, Status::Done);
+    Ok(out.written().to_vec(alloc)?)
+}
+
 // The file is compiled to this module.
 fn expect_module(rt: &impl Abort, alloc: Global, file: &[u8], module: &[u8]) -> Result<(), Fail> {
     let want = (Status::Done, module, b"".as_slice());
@@ -383,6 +397,133 @@ fn refuses_tables(rt: HostRuntime) -> Result<(), Fail> {
     expect(&rt, alloc, FIRST, &["eval", "f", "4"], &EASY, two)
 }
 
+const TAPS_MODULE: &[u8] = b"module race(clk, rst, in_a, out_y, out_z);
+  input clk;
+  input rst;
+  input in_a;
+  output out_y;
+  output out_z;
+  reg [4:0] r0;
+  assign out_y = r0[2];
+  assign out_z = r0[4];
+  always @(posedge clk) if (rst) r0 <= 5'b0; else r0 <= {r0[3:0], in_a};
+endmodule
+";
+
+const DELAY_MODULE: &[u8] = b"module race(clk, rst, in_a, out_y);
+input clk; input rst; input in_a; output out_y; // one cycle later
+reg r; assign out_y = r;
+always @(posedge clk) if (rst) r <= 1'b0; else r <= in_a;
+endmodule";
+
+#[test]
+fn simulates_modules(rt: HostRuntime) -> Result<(), Fail> {
+    let alloc = rt.alloc();
+    let latch = [
+        (["sim", "f", "8", "4", "4"], b"y 00000000\n".as_slice()),
+        (["sim", "f", "8", "4", "5"], b"y 00001111\n".as_slice()),
+        (["sim", "f", "8", "7", "never"], b"y 00000001\n".as_slice()),
+        (["sim", "f", "8", "8", "never"], b"y 00000000\n".as_slice()),
+    ];
+    for (words, text) in latch {
+        expect_values(&rt, alloc, RACE_MODULE, &words, text)?;
+    }
+    expect_values(
+        &rt,
+        alloc,
+        DELAY_MODULE,
+        &["sim", "f", "3", "0"],
+        b"y 011\n",
+    )?;
+    let both = b"y 00001111\nz 00000011\n";
+    expect_values(&rt, alloc, TAPS_MODULE, &["sim", "f", "8", "1"], both)
+}
+
+// The name y, so many digits 0, and so many digits 1.
+fn row(alloc: Global, low: usize, high: usize) -> Result<Vec<u8>, Fail> {
+    let mut text = b"y ".to_vec(alloc)?;
+    text.extend_from_slice(&vec![in alloc; b'0'; low]?)?;
+    text.extend_from_slice(&vec![in alloc; b'1'; high]?)?;
+    text.extend_from_slice(b"\n")?;
+    Ok(text)
+}
+
+#[test]
+fn simulates_many_cycles(rt: HostRuntime) -> Result<(), Fail> {
+    let alloc = rt.alloc();
+    let never = output_of(&rt, alloc, DELAY_MODULE, &["sim", "f", "100", "never"])?;
+    assert_eq!(rt; never, row(alloc, 100, 0)?);
+    let late = output_of(&rt, alloc, DELAY_MODULE, &["sim", "f", "100000", "99990"])?;
+    assert_eq!(rt; late, row(alloc, 99991, 9)?);
+    Ok(())
+}
+
+#[test]
+fn modules_behave_as_their_networks_are_valued(rt: HostRuntime) -> Result<(), Fail> {
+    let alloc = rt.alloc();
+    let values = output_of(&rt, alloc, RACE, &["eval", "f", "5", "3", "9"])?;
+    assert_eq!(rt; values.as_slice(), b"pa never\npb 3\npc never\n".as_slice());
+    let module = output_of(&rt, alloc, RACE, &["compile", "f"])?;
+    let levels = output_of(&rt, alloc, &module, &["sim", "f", "6", "5", "3", "9"])?;
+    assert_eq!(rt;
+        levels.as_slice(),
+        b"pa 000000\npb 000111\npc 000000\n".as_slice()
+    );
+    let module = output_of(&rt, alloc, PAIR, &["compile", "f"])?;
+    let levels = output_of(&rt, alloc, &module, &["sim", "f", "8", "1", "4"])?;
+    assert_eq!(rt; levels.as_slice(), b"y 00000011\n".as_slice());
+    Ok(())
+}
+
+#[test]
+fn refuses_modules(rt: HostRuntime) -> Result<(), Fail> {
+    let alloc = rt.alloc();
+    let ports =
+        b"module race(clk, rst, in_a, out_y);\ninput clk;\ninput rst;\ninput in_a;\noutput out_y;\n";
+    let cases = [
+        (
+            b"assign out_y = in_a\nendmodule\n".as_slice(),
+            b"racelog: E70 file 1 line 6\n".as_slice(),
+        ),
+        (
+            b"assign out_y = in_b;\nendmodule\n",
+            b"racelog: E71 file 1 line 6\n",
+        ),
+        (
+            b"wire w;\nassign out_y = w;\nassign w = in_a;\nendmodule\n",
+            b"racelog: E72 file 1 line 7\n",
+        ),
+        (b"\nendmodule\n", b"racelog: E72 file 1 line 7\n"),
+        (
+            b"reg [0:0] r;\nassign out_y = in_a;\nendmodule\n",
+            b"racelog: E73 file 1 line 6\n",
+        ),
+        (
+            b"reg [65536:0] r;\nassign out_y = in_a;\nendmodule\n",
+            b"racelog: E74 file 1 line 6\n",
+        ),
+    ];
+    for (rest, line) in cases {
+        let mut text = ports.to_vec(alloc)?;
+        text.extend_from_slice(rest)?;
+        let want = (Status::Refused, b"".as_slice(), line);
+        expect(&rt, alloc, &text, &["sim", "f", "8", "4"], &EASY, want)?;
+    }
+    let one = (
+        Status::Refused,
+        b"".as_slice(),
+        b"racelog: E51 1\n".as_slice(),
+    );
+    expect(
+        &rt,
+        alloc,
+        DELAY_MODULE,
+        &["sim", "f", "8", "4", "4"],
+        &EASY,
+        one,
+    )
+}
+
 // Lets of which each takes the one before twice.
 fn doubling(alloc: Global, count: u64) -> Result<Vec<u8>, Fail> {
     let mut number = Buffer::new();
@@ -472,7 +613,10 @@ fn refuses_words(rt: HostRuntime) -> Result<(), Fail> {
     expect_usage(&rt, alloc, &["tabulate", "f", "y-", "1"])?;
     expect_usage(&rt, alloc, &["tabulate", "f", "y", "never"])?;
     expect_usage(&rt, alloc, &["tabulate", "f", "y", "01"])?;
-    expect_usage(&rt, alloc, &["tabulate", "f", "y", "1000001"])
+    expect_usage(&rt, alloc, &["tabulate", "f", "y", "1000001"])?;
+    expect_usage(&rt, alloc, &["sim", "f", "8"])?;
+    expect_usage(&rt, alloc, &["sim", "f", "0", "4"])?;
+    expect_usage(&rt, alloc, &["sim", "f", "100001", "4"])
 }
 
 #[test]

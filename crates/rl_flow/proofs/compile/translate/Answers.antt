@@ -1,5 +1,4 @@
 use Rattle.std.proofs.Common.{◌≡◌, List, ℕ, subst, sym}
-use Rattle.verilog_text.specs.Circuit.{Circuit}
 use Rattle.verilog_text.specs.Spelling.{SpellsModule}
 use Rattle.verilog_text.specs.Text.{module_text}
 use Rattle.rl_flow.proofs.compile.translate.Goals as goal
