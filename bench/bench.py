@@ -1,0 +1,149 @@
+#!/usr/bin/env python3
+"""Measures racelog on networks of growing size, and iverilog beside it where that is installed.
+
+    python3 bench/bench.py PROGRAM [SIZE ..]
+
+PROGRAM is the built racelog. For each SIZE (1,024 to 16,384 operators, doubling, where none are given) it makes a network,
+compiles it, evaluates it at some times, and simulates the compiled module for 64 cycles. It prints the least seconds of five
+runs, the most memory in MiB, and by how much the seconds grew from the size before. Memory of less than this script's own, some
+15 MiB, can't be told, and is given as that. With iverilog it compiles and runs the same module under
+a test bench of its own, and compares the levels of every output digit by digit.
+
+A network of SIZE operators and as many inc has 32 inputs and 16 outputs. Each let takes min, max or lt, by turns, of two of the
+256 lets and inputs before it, chosen by a fixed generator of numbers, the first delayed by 1 to 3 cycles.
+"""
+import os
+import shutil
+import subprocess
+import sys
+import tempfile
+import time
+
+INPUTS = 32
+OUTPUTS = 16
+CYCLES = 64
+
+
+class Numbers:
+    """The generator of Lehmer with the multiplier 48,271."""
+
+    def __init__(self, seed):
+        self.state = seed
+
+    def below(self, n):
+        self.state = self.state * 48271 % 2147483647
+        return self.state % n
+
+
+def network(size):
+    numbers = Numbers(20181)
+    names = ["a%d" % i for i in range(INPUTS)]
+    lines = ["racenet 1", "input " + " ".join(names)]
+    for k in range(size):
+        recent = names[-256:]
+        first = recent[numbers.below(len(recent))]
+        second = recent[numbers.below(len(recent))]
+        operator = ("min", "max", "lt")[k % 3]
+        cycles = 1 + numbers.below(3)
+        lines.append("let p%d = %s(inc(%s, %d), %s)" % (k, operator, first, cycles, second))
+        names.append("p%d" % k)
+    for o in range(OUTPUTS):
+        lines.append("output y%d = %s" % (o, names[-1 - o]))
+    return "\n".join(lines) + "\n"
+
+
+def times():
+    numbers = Numbers(7)
+    return ["never" if i % 8 == 7 else str(numbers.below(24)) for i in range(INPUTS)]
+
+
+def run(words, out):
+    """Runs a program five times: the least seconds, and the most memory in MiB."""
+    best = None
+    most = 0.0
+    for _ in range(5):
+        with open(out, "wb") as to:
+            begin = time.perf_counter()
+            child = subprocess.Popen(words, stdout=to)
+            _, status, usage = os.wait4(child.pid, 0)
+            child.returncode = os.waitstatus_to_exitcode(status)
+            seconds = time.perf_counter() - begin
+        if child.returncode != 0:
+            sys.exit("%s ended with %d" % (" ".join(words[:2]), child.returncode))
+        best = seconds if best is None else min(best, seconds)
+        most = max(most, usage.ru_maxrss / 1024)
+    return best, most
+
+
+def test_bench(rises):
+    """A module that drives race by levels, and prints its outputs in each cycle."""
+    lines = ["module bench;", "reg clk = 0, rst = 1;"]
+    ports = [".clk(clk)", ".rst(rst)"]
+    for i in range(INPUTS):
+        lines.append("reg a%d = 0;" % i)
+        ports.append(".in_a%d(a%d)" % (i, i))
+    for o in range(OUTPUTS):
+        lines.append("wire y%d;" % o)
+        ports.append(".out_y%d(y%d)" % (o, o))
+    lines.append("race it(%s);" % ", ".join(ports))
+    lines += ["integer t;", "initial begin", "#1 clk = 1; #1 clk = 0; rst = 0;"]
+    lines.append("for (t = 0; t < %d; t = t + 1) begin" % CYCLES)
+    for i, rise in enumerate(rises):
+        if rise != "never":
+            lines.append("a%d = t >= %s;" % (i, rise))
+    outs = ", ".join("y%d" % o for o in range(OUTPUTS))
+    lines.append('#1 $display("%s", %s); clk = 1; #1 clk = 0;' % ("%b" * OUTPUTS, outs))
+    lines += ["end", "$finish;", "end", "endmodule"]
+    return "\n".join(lines) + "\n"
+
+
+def beside(folder, rises):
+    """iverilog's seconds to compile and run the module, and whether its levels are the same."""
+    with open(os.path.join(folder, "bench.v"), "w") as to:
+        to.write(test_bench(rises))
+    made = os.path.join(folder, "made")
+    words = ["iverilog", "-o", made, os.path.join(folder, "bench.v"), os.path.join(folder, "module.v")]
+    compiled, _ = run(words, os.path.join(folder, "nothing"))
+    ran, _ = run(["vvp", "-n", made], os.path.join(folder, "levels.iverilog"))
+    with open(os.path.join(folder, "levels.iverilog")) as f:
+        cycles = [line.strip() for line in f if line.strip()]
+    with open(os.path.join(folder, "levels")) as f:
+        rows = [line.split()[1] for line in f]
+    same = all("".join(row[t] for row in rows) == cycles[t] for t in range(CYCLES))
+    return compiled + ran, same
+
+
+def main():
+    if len(sys.argv) < 2:
+        sys.exit(__doc__)
+    program = os.path.abspath(sys.argv[1])
+    sizes = [int(word) for word in sys.argv[2:]] or [1024, 2048, 4096, 8192, 16384]
+    rises = times()
+    have = shutil.which("iverilog") is not None
+    print("operators  command   seconds    MiB  growth" + ("  iverilog  same" if have else ""))
+    last = {}
+    with tempfile.TemporaryDirectory() as folder:
+        path = os.path.join(folder, "network")
+        module = os.path.join(folder, "module.v")
+        levels = os.path.join(folder, "levels")
+        for size in sizes:
+            with open(path, "w") as to:
+                to.write(network(size))
+            jobs = [
+                ("compile", [program, "compile", path], module),
+                ("eval", [program, "eval", path] + rises, os.path.join(folder, "values")),
+                ("sim", [program, "sim", module, str(CYCLES)] + rises, levels),
+            ]
+            for name, words, out in jobs:
+                seconds, memory = run(words, out)
+                growth = "%6.2f" % (seconds / last[name]) if name in last else "     -"
+                last[name] = seconds
+                line = "%9d  %-7s  %8.4f  %5.1f  %s" % (size, name, seconds, memory, growth)
+                if have and name == "sim":
+                    other, same = beside(folder, rises)
+                    line += "  %8.4f  %s" % (other, "yes" if same else "NO")
+                print(line, flush=True)
+
+
+if __name__ == "__main__":
+    main()
