@@ -9,6 +9,9 @@ runs, the most memory in MiB, and by how much the seconds grew from the size bef
 15 MiB, can't be told, and is given as that. With iverilog it compiles and runs the same module under
 a test bench of its own, and compares the levels of every output digit by digit.
 
+Then it makes modules of 1 to 16 MiB of text, doubling, and measures how long `sim` takes to read them: one cycle is simulated.
+Such a module has a wire for each 256 bytes, and the assign of each is an OR of earlier wires.
+
 A network of SIZE operators and as many inc has 32 inputs and 16 outputs. Each let takes min, max or lt, by turns, of two of the
 256 lets and inputs before it, chosen by a fixed generator of numbers, the first delayed by 1 to 3 cycles.
 """
@@ -49,6 +52,27 @@ def network(size):
         names.append("p%d" % k)
     for o in range(OUTPUTS):
         lines.append("output y%d = %s" % (o, names[-1 - o]))
+    return "\n".join(lines) + "\n"
+
+
+def long_module(size):
+    """A module of about so many bytes, a wire for each 256."""
+    numbers = Numbers(20181)
+    wires = size // 256
+    ports = ["  %s;" % port for port in ("input clk", "input rst", "input in_a", "output out_y")]
+    lines = ["module race(clk, rst, in_a, out_y);"] + ports
+    lines += ["  wire w%d;" % k for k in range(wires)]
+    for k in range(wires):
+        parts = ["in_a"]
+        length = len("  assign w%d = in_a;  wire w%d;  " % (k, k))
+        while k > 0:
+            part = "w%d" % (k - 1 - numbers.below(min(k, 256)))
+            length += len(part) + 3
+            if length > 256:
+                break
+            parts.append(part)
+        lines.append("  assign w%d = %s;" % (k, " | ".join(parts)))
+    lines += ["  assign out_y = w%d;" % (wires - 1), "endmodule"]
     return "\n".join(lines) + "\n"
 
 
@@ -113,36 +137,60 @@ def beside(folder, rises):
     return compiled + ran, same
 
 
+def measure_networks(program, sizes, folder):
+    """A line for each size and command."""
+    rises = times()
+    have = shutil.which("iverilog") is not None
+    print("operators  command   seconds    MiB  growth" + ("  iverilog  times  same" if have else ""))
+    last = {}
+    path = os.path.join(folder, "network")
+    module = os.path.join(folder, "module.v")
+    levels = os.path.join(folder, "levels")
+    for size in sizes:
+        with open(path, "w") as to:
+            to.write(network(size))
+        jobs = [
+            ("compile", [program, "compile", path], module),
+            ("eval", [program, "eval", path] + rises, os.path.join(folder, "values")),
+            ("sim", [program, "sim", module, str(CYCLES)] + rises, levels),
+        ]
+        for name, words, out in jobs:
+            seconds, memory = run(words, out)
+            line = "%9d  %-7s  %8.4f  %5.1f  %s" % (size, name, seconds, memory, growth(last, name, seconds))
+            if have and name == "sim":
+                other, same = beside(folder, rises)
+                line += "  %8.4f  %5.1f  %s" % (other, other / seconds, "yes" if same else "NO")
+            print(line, flush=True)
+
+
+def growth(last, name, seconds):
+    """By how much the seconds grew from the size before, which are kept in `last`."""
+    text = "%6.2f" % (seconds / last[name]) if name in last else "     -"
+    last[name] = seconds
+    return text
+
+
+def measure_reading(program, folder):
+    """A line for each size of a module's text."""
+    print("\n    bytes  command   seconds    MiB  growth")
+    last = {}
+    path = os.path.join(folder, "long.v")
+    for mebibytes in (1, 2, 4, 8, 16):
+        with open(path, "w") as to:
+            to.write(long_module(mebibytes * 1048576 - 4096))
+        seconds, memory = run([program, "sim", path, "1", "0"], os.path.join(folder, "digit"))
+        size = os.path.getsize(path)
+        print("%9d  %-7s  %8.4f  %5.1f  %s" % (size, "sim", seconds, memory, growth(last, "sim", seconds)), flush=True)
+
+
 def main():
     if len(sys.argv) < 2:
         sys.exit(__doc__)
     program = os.path.abspath(sys.argv[1])
     sizes = [int(word) for word in sys.argv[2:]] or [1024, 2048, 4096, 8192, 16384]
-    rises = times()
-    have = shutil.which("iverilog") is not None
-    print("operators  command   seconds    MiB  growth" + ("  iverilog  same" if have else ""))
-    last = {}
     with tempfile.TemporaryDirectory() as folder:
-        path = os.path.join(folder, "network")
-        module = os.path.join(folder, "module.v")
-        levels = os.path.join(folder, "levels")
-        for size in sizes:
-            with open(path, "w") as to:
-                to.write(network(size))
-            jobs = [
-                ("compile", [program, "compile", path], module),
-                ("eval", [program, "eval", path] + rises, os.path.join(folder, "values")),
-                ("sim", [program, "sim", module, str(CYCLES)] + rises, levels),
-            ]
-            for name, words, out in jobs:
-                seconds, memory = run(words, out)
-                growth = "%6.2f" % (seconds / last[name]) if name in last else "     -"
-                last[name] = seconds
-                line = "%9d  %-7s  %8.4f  %5.1f  %s" % (size, name, seconds, memory, growth)
-                if have and name == "sim":
-                    other, same = beside(folder, rises)
-                    line += "  %8.4f  %s" % (other, "yes" if same else "NO")
-                print(line, flush=True)
+        measure_networks(program, sizes, folder)
+        measure_reading(program, folder)
 
 
 if __name__ == "__main__":

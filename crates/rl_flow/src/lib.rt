@@ -23,4 +23,6 @@ pub use running::run;
 pub use status::Status;
 
 #[cfg(test)]
+mod size_tests;
+#[cfg(test)]
 mod tests;

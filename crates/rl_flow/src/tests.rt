@@ -169,12 +169,17 @@ fn expect(
 }
 
 // What the words write, where they name one file, "f".
-fn output_of(rt: &impl Abort, alloc: Global, file: &[u8], words: &[&str]) -> Result<Vec<u8>, Fail> {
+pub fn output_of(
+    rt: &impl Abort,
+    alloc: Global,
+    file: &[u8],
+    words: &[&str],
+) -> Result<Vec<u8>, Fail> {
     let mut files = Vec::new(alloc);
     files.push((String::from_str(alloc, "f")?, file.to_vec(alloc)?))?;
     assert!(rt; are_distinct(&files));
     let mut shelf = MemShelf::new(files, 65536, Vec::new(alloc));
-    let mut out = MemSink::new(alloc, 262144, 65536, Vec::new(alloc))?;
+    let mut out = MemSink::new(alloc, 1048576, 65536, Vec::new(alloc))?;
     let mut err = MemSink::new(alloc, 4096, 4096, Vec::new(alloc))?;
     let words = texts(alloc, words)?;
     let status = run(alloc, &words, &mut shelf, &mut out, &mut err);

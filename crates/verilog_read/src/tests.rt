@@ -2,6 +2,7 @@ ghost use Rattle.std.specs.Prelude.{◌≤◌, length};
 
 use crate::error::VerilogError;
 use crate::reader::read_module;
+use itoa::Buffer;
 use std::alloc::Global;
 use std::process::Abort;
 use std::test::Fail;
@@ -277,5 +278,151 @@ fn deep_expressions_are_read(rt: HostRuntime) -> Result<(), Fail> {
     assert!(rt; text.len() <= 100000);
     let module = read_module(alloc, &text)?;
     assert_eq!(rt; module.assigns().len(), 1);
+    Ok(())
+}
+
+const MIN: &[u8] = b"module race(clk, rst, in_a, in_b, out_y);
+  input clk;
+  input rst;
+  input in_a;
+  input in_b;
+  output out_y;
+  wire w0;
+  assign w0 = in_a | in_b;
+  assign out_y = w0;
+endmodule
+";
+
+fn line_ends(text: &[u8]) -> u32 {
+    let mut count: u32 = 0;
+    for b in text {
+        if *b == b'\n' {
+            count = count.saturating_add(1);
+        }
+    }
+    count
+}
+
+/// No front of a module is one, but for the whole without its last line end. Each front breaks off in its last line.
+#[test]
+fn fronts_are_refused(rt: HostRuntime) -> Result<(), Fail> {
+    let alloc = rt.alloc();
+    check_read(&rt, alloc, MIN)?;
+    let whole = MIN.len() - 1;
+    assert!(rt; read_module(alloc, &MIN[..whole]).is_ok());
+    for n in 0..whole {
+        let front = &MIN[..n];
+        let line = line_ends(front).saturating_add(1);
+        check_refused(&rt, alloc, front, VerilogError::Syntax(line));
+    }
+    Ok(())
+}
+
+/// Wires take their values in the order of their assigns, whatever stands between them.
+#[test]
+fn assigns_may_be_spaced_and_commented(rt: HostRuntime) -> Result<(), Fail> {
+    let alloc = rt.alloc();
+    let later =
+        b"wire w0; wire w1; // two\nassign w1 = w0;\nassign w0 = in_a;\nassign out_y = w1;\nendmodule";
+    check_body(&rt, alloc, later, VerilogError::Order(8))?;
+    let mut text = PORTS.to_vec(alloc)?;
+    text.extend_from_slice(b"wire w0; wire w1; /* two\n */\tassign w0=in_a;\r\n\n")?;
+    text.extend_from_slice(b"assign w1 = // next\n~ ~w0; assign out_y=w1;endmodule//")?;
+    assert!(rt; text.len() <= 10000);
+    let module = read_module(alloc, &text)?;
+    assert_eq!(rt; module.assigns().len(), 3);
+    Ok(())
+}
+
+#[test]
+fn reserved_names_are_refused(rt: HostRuntime) -> Result<(), Fail> {
+    let alloc = rt.alloc();
+    let reserved = [
+        "module",
+        "endmodule",
+        "input",
+        "output",
+        "wire",
+        "reg",
+        "assign",
+        "always",
+        "posedge",
+        "if",
+        "else",
+        "and",
+        "or",
+        "not",
+        "nand",
+        "nor",
+        "xor",
+        "xnor",
+        "buf",
+        "begin",
+        "end",
+        "case",
+        "endcase",
+        "for",
+        "while",
+        "initial",
+        "inout",
+        "integer",
+        "parameter",
+        "function",
+        "task",
+        "race",
+        "clk",
+        "rst",
+    ];
+    for name in reserved {
+        let mut body = b"wire ".to_vec(alloc)?;
+        body.extend_from_slice(name.as_bytes())?;
+        body.extend_from_slice(b";\nendmodule")?;
+        check_body(&rt, alloc, &body, VerilogError::Name(7))?;
+    }
+    Ok(())
+}
+
+#[test]
+fn names_end_at_40_bytes(rt: HostRuntime) -> Result<(), Fail> {
+    let alloc = rt.alloc();
+    let cases: [(u32, VerilogError); 2] = [
+        (40, VerilogError::Order(8)),
+        (41, VerilogError::Name(7)),
+    ];
+    for (length, error) in cases {
+        let mut body = b"wire ".to_vec(alloc)?;
+        put_pieces(&mut body, length, b"a")?;
+        body.extend_from_slice(b";\nendmodule")?;
+        check_body(&rt, alloc, &body, error)?;
+    }
+    Ok(())
+}
+
+/// A line of these words with the numbers before `count` between them, for each.
+fn put_numbered(text: &mut Vec<u8>, count: u32, front: &[u8], back: &[u8]) -> Result<(), Fail> {
+    let mut number = Buffer::new();
+    for k in 0..count {
+        text.extend_from_slice(front)?;
+        text.extend_from_slice(number.format(k).as_bytes())?;
+        text.extend_from_slice(back)?;
+    }
+    Ok(())
+}
+
+#[test]
+fn wires_end_at_65536(rt: HostRuntime) -> Result<(), Fail> {
+    let alloc = rt.alloc();
+    let mut text = PORTS.to_vec(alloc)?;
+    put_numbered(&mut text, 65536, b"wire w", b";\n")?;
+    let mut one_more = text.to_vec(alloc)?;
+    put_numbered(&mut text, 65536, b"assign w", b" = in_a;\n")?;
+    text.extend_from_slice(b"assign out_y = w65535;\nendmodule\n")?;
+    assert!(rt; text.len() <= 10000000);
+    let module = read_module(alloc, &text)?;
+    assert_eq!(rt; module.wires().len(), 65536);
+    assert_eq!(rt; module.assigns().len(), 65537);
+    one_more.extend_from_slice(b"wire x;\nendmodule\n")?;
+    assert!(rt; one_more.len() <= 10000000);
+    check_refused(&rt, alloc, &one_more, VerilogError::Limit(65543));
     Ok(())
 }
