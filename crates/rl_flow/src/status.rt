@@ -4,9 +4,9 @@ ghost use Rattle.rl_flow.specs.Status.{code_of};
 /// How a run ends.
 #[derive(Clone, Copy, Debug, PartialEq, Eq)]
 pub enum Status {
-    /// Done, equal, or accepted.
+    /// Done.
     Done,
-    /// Different, or a tree is refused.
+    /// No: no run of this version gives it.
     No,
     /// The words are none of the program's.
     Words,
@@ -18,7 +18,7 @@ pub enum Status {
     WriteFault,
     /// Memory ran out.
     NoMemory,
-    /// The budget of case nodes is spent.
+    /// Undecided: no run of this version gives it.
     Undecided,
 }
 

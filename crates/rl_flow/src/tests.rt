@@ -296,7 +296,7 @@ fn refuses_windows(rt: HostRuntime) -> Result<(), Fail> {
     Ok(())
 }
 
-// The words, after `eval f`, give this text.
+// The words give this text, and status 0.
 fn expect_values(
     rt: &impl Abort,
     alloc: Global,

@@ -318,7 +318,7 @@ fn fronts_are_refused(rt: HostRuntime) -> Result<(), Fail> {
     Ok(())
 }
 
-/// Wires take their values in the order of their assigns, whatever stands between them.
+/// Spaces and comments may stand between all words; an assign still names only wires of earlier ones.
 #[test]
 fn assigns_may_be_spaced_and_commented(rt: HostRuntime) -> Result<(), Fail> {
     let alloc = rt.alloc();
@@ -398,7 +398,7 @@ fn names_end_at_40_bytes(rt: HostRuntime) -> Result<(), Fail> {
     Ok(())
 }
 
-/// A line of these words with the numbers before `count` between them, for each.
+/// For each number below `count`: the front, the number and the back.
 fn put_numbered(text: &mut Vec<u8>, count: u32, front: &[u8], back: &[u8]) -> Result<(), Fail> {
     let mut number = Buffer::new();
     for k in 0..count {

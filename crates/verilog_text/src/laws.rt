@@ -16,7 +16,7 @@ pub fn settles_in_order()
     ensures { (m : Circuit) → IsOrdered m → SettlesInOrder m }
 {}
 
-/// There is one settled state for the levels of the inputs and the register bits.
+/// Where assigns are in order, there is at most one settled state for the levels of the inputs and the register bits.
 pub fn one_settled()
     ensures { (m : Circuit) → IsOrdered m → HasOneSettled m }
 {}
