@@ -1,6 +1,8 @@
 //! What makes a table stand for a function of times, and the tables of networks.
 //!
 //! Causal and invariant functions are those of Smith, *Space-Time Algebra* (ISCA 2018).
+//!
+//! `NoMemory` is answered where memory ran out.
 #![tactic(auto)]
 
 mod checking;

@@ -1,4 +1,6 @@
 //! A cycle simulator of modules: the levels of a module, one clock cycle after another.
+//!
+//! `NoMemory` is answered where memory ran out.
 #![tactic(auto)]
 
 pub mod laws;

@@ -1,4 +1,6 @@
 //! Tables of times: what they are, their text, the reading of it, and the function that a table stands for.
+//!
+//! `NoMemory` is answered where memory ran out.
 #![tactic(auto)]
 
 mod applying;

@@ -46,18 +46,21 @@ impl Model for OutLine {
 }
 
 impl OutLine {
+    /// An output of this name, without a prefix, that comes from this line.
     pub fn new(name: Name, line: Line) -> OutLine
         ensures { result ≡ record { name = name; line = line } }
     {
         OutLine { name, line }
     }
 
+    /// The name, without a prefix.
     pub fn name(&self) -> &Name
         ensures { result.now ≡ self.now.name }
     {
         &self.name
     }
 
+    /// Where it comes from.
     pub fn line(&self) -> Line
         ensures { result ≡ self.now.line }
     {
@@ -104,24 +107,28 @@ impl Gates {
         }
     }
 
+    /// The names of the inputs, in order, without a prefix.
     pub fn inputs(&self) -> &[Name]
         ensures { result.now ≡ self.now.inputs }
     {
         self.inputs.as_slice()
     }
 
+    /// The outputs, in order.
     pub fn outputs(&self) -> &[OutLine]
         ensures { result.now ≡ self.now.outputs }
     {
         self.outputs.as_slice()
     }
 
+    /// The gates, each behind those that it takes directly.
     pub fn gates(&self) -> &[Gate]
         ensures { result.now ≡ self.now.gates }
     {
         self.gates.as_slice()
     }
 
+    /// The delays, in the order in which taps number them.
     pub fn delays(&self) -> &[Delay]
         ensures { result.now ≡ self.now.delays }
     {

@@ -161,7 +161,7 @@ fn out_lines(
 
 /// The gates of the terms at some roots of a store, one output name for each: one gate for each distinct min, max and
 /// lt among their subterms, in ascending place, and one delay for each distinct subterm that is delayed, as wide as its
-/// longest delay.
+/// longest delay. `TooManyBits` tells how many register bits they need, where that is over 65,536.
 pub fn lower(
     alloc: Global,
     store: &Store,

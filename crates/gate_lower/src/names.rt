@@ -29,6 +29,7 @@ pub fn wire_names(alloc: Global, count: u32) -> Result<Vec<Name>, NoMemory>
     Ok(names)
 }
 
+/// A copy of each name, in order.
 pub fn copy_names(alloc: Global, names: &[Name]) -> Result<Vec<Name>, NoMemory>
     ensures { IfOk result (λ copies. copies.items ≡ names.now) }
 {
@@ -39,6 +40,7 @@ pub fn copy_names(alloc: Global, names: &[Name]) -> Result<Vec<Name>, NoMemory>
     Ok(copies)
 }
 
+/// A copy of the name of each output, in order.
 pub fn output_names(alloc: Global, outputs: &[OutLine]) -> Result<Vec<Name>, NoMemory>
     ensures { IfOk result (λ names. names.items ≡ output_names outputs.now) }
 {

@@ -40,18 +40,21 @@ impl Model for Binding {
 }
 
 impl Binding {
+    /// This name for this expression.
     pub fn new(name: Name, body: Expr) -> Binding
         ensures { result ≡ record { name = name; body = formula body } }
     {
         Binding { name, body }
     }
 
+    /// The name.
     pub fn name(&self) -> &Name
         ensures { result.now ≡ self.now.name }
     {
         &self.name
     }
 
+    /// The expression.
     pub fn body(&self) -> &Expr
         ensures { formula result.now ≡ self.now.body }
     {
@@ -94,18 +97,21 @@ impl Network {
         }
     }
 
+    /// The names of the inputs, in order.
     pub fn inputs(&self) -> &[Name]
         ensures { result.now ≡ self.now.inputs }
     {
         self.inputs.as_slice()
     }
 
+    /// The lets, in order: each names inputs and earlier lets.
     pub fn lets(&self) -> &[Binding]
         ensures { result.now ≡ self.now.lets }
     {
         self.lets.as_slice()
     }
 
+    /// The outputs, in order.
     pub fn outputs(&self) -> &[Binding]
         ensures { result.now ≡ self.now.outputs }
     {

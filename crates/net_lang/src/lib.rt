@@ -1,4 +1,6 @@
 //! Networks of race logic: what they are, their text, and the reading of it.
+//!
+//! `NoMemory` is answered where memory ran out.
 #![tactic(auto)]
 
 mod ast;

@@ -40,7 +40,7 @@ fn zeros(alloc: Global, n: usize) -> Result<Vec<u8>, AllocError>
     Vec::from_elem(alloc, 0, n)
 }
 
-/// Reads the whole file of this name, unless it has more than `limit` bytes.
+/// Reads the whole file of this name. `TooLong` where it has more than `limit` bytes; `limit` is at most 67,108,864.
 ///
 /// It asks for large pieces, and for no more than one byte past the limit. The first fetch that fails ends the call
 /// with `Fault`.

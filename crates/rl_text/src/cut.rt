@@ -10,7 +10,7 @@ use crate::words::{Lexeme, Line, Word};
 use rl_time::NoMemory;
 use std::alloc::Global;
 
-/// The line of a place of a text, in bytes from 0.
+/// The line, from 1, of a place, in bytes from 0, of a text of at most 67,108,864 bytes.
 pub fn line_at(text: &[u8], place: u32) -> u32
     requires { length text.now ≤ 67108864 }
     ensures { result ≡ line_behind (take place text.now) }

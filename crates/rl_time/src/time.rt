@@ -10,7 +10,7 @@ pub enum Time {
     Never,
 }
 
-/// Memory ran out: the one answer that any call which allocates may give.
+/// Memory ran out: the error that any call which allocates may give.
 #[derive(Clone, Copy, Debug, PartialEq, Eq)]
 pub struct NoMemory;
 

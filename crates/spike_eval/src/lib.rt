@@ -2,6 +2,8 @@
 //! function of the inputs.
 //!
 //! Causal and invariant functions are those of Smith, *Space-Time Algebra* (ISCA 2018).
+//!
+//! `NoMemory` is answered where memory ran out.
 #![tactic(auto)]
 
 mod evaluation;

@@ -75,7 +75,7 @@ impl Store {
         let _ = &self.nodes;
     }
 
-    /// Makes room for n nodes more.
+    /// Makes room for n nodes more, at most 262,144.
     pub fn reserve(&mut self, n: u32) -> Result<(), NoMemory>
         requires few { n ≤ 262144 }
         ensures nodes { self.new.nodes ≡ self.old.nodes }
@@ -89,9 +89,9 @@ impl Store {
         }
     }
 
-    /// The place of a node, which goes last where it isn't held. `Full` comes exactly where it
-    /// isn't held and the store holds 262,144 nodes, and `NoMemory` where it isn't held and there
-    /// is no room for it. Its operands are in the store.
+    /// The place of a node, which goes last where it isn't held. A node that is held is always
+    /// taken. For another, `Full` comes exactly where the store holds 262,144 nodes, and `NoMemory`
+    /// only where it holds fewer and no room was left. Its operands are in the store.
     pub fn intern(&mut self, node: Node) -> Result<Term, StoreError>
         requires over { IsNodeOver (length self.old.nodes) node }
         ensures nodes { OnOk result (self.new.nodes ≡ with_node self.old.nodes node) }

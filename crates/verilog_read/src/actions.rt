@@ -82,6 +82,7 @@ fn push_assign(
     Ok(())
 }
 
+/// Judges an assign behind the statements before it, and keeps it where it breaks no rule.
 pub fn read_assign(
     alloc: Global,
     draft: &mut Draft<'_, '_>,
@@ -226,6 +227,7 @@ fn push_always(
     Ok(())
 }
 
+/// Judges an always statement, and keeps what its register takes where it breaks no rule.
 pub fn read_always(
     alloc: Global,
     draft: &mut Draft<'_, '_>,

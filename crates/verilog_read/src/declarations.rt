@@ -18,6 +18,7 @@ use rl_time::NoMemory;
 use std::alloc::Global;
 use verilog_text::{Bit, Reg, Rule};
 
+/// Judges the header: the name of the module and the list of its ports, which are then to be declared.
 pub fn read_header<'b, 'a>(
     draft: &mut Draft<'b, 'a>,
     name: &[u8],
@@ -93,6 +94,7 @@ fn push_input<'a>(alloc: Global, draft: &mut Draft<'_, 'a>, name: &'a [u8]) -> R
     Ok(())
 }
 
+/// Judges the declaration of an input, the clock or the reset, and keeps it where it breaks no rule.
 pub fn read_input<'a>(
     alloc: Global,
     draft: &mut Draft<'_, 'a>,
@@ -125,6 +127,7 @@ fn push_output<'a>(alloc: Global, draft: &mut Draft<'_, 'a>, name: &'a [u8]) -> 
     Ok(())
 }
 
+/// Judges the declaration of an output, and keeps it where it breaks no rule.
 pub fn read_output<'a>(
     alloc: Global,
     draft: &mut Draft<'_, 'a>,
@@ -152,6 +155,7 @@ fn push_wire<'a>(alloc: Global, draft: &mut Draft<'_, 'a>, name: &'a [u8]) -> Re
     Ok(())
 }
 
+/// Judges the declaration of a wire, and keeps it where it breaks no rule.
 pub fn read_wire<'a>(
     alloc: Global,
     draft: &mut Draft<'_, 'a>,
@@ -210,6 +214,7 @@ fn push_reg<'a>(
     Ok(())
 }
 
+/// Judges the declaration of a register, with the last bit of its range or none, and keeps it where it breaks no rule.
 pub fn read_reg<'a>(
     alloc: Global,
     draft: &mut Draft<'_, 'a>,

@@ -46,6 +46,7 @@ pub fn knows(written: &Written<'_>, scope: &Scope<'_>) -> bool
     }
 }
 
+/// The flag at a place, and false past the end.
 pub fn is_set(flags: &[bool], place: u32) -> bool
     ensures { result ≡ slice_index_or flags.now place false }
 {

@@ -102,6 +102,7 @@ pub fn is_race(name: &[u8]) -> bool
     name == b"race".as_slice()
 }
 
+/// Whether it is `clk` or `rst`.
 pub fn is_clock_or_reset(name: &[u8]) -> bool
     ensures { result ≡ is_clock_or_reset name.now }
 {

@@ -21,6 +21,7 @@ pub struct Scope<'a> {
 }
 
 impl<'a> Scope<'a> {
+    /// No names yet.
     pub fn new(alloc: Global) -> Scope<'a>
         ensures { (t : List ℕ) → find result t ≡ None }
     {
@@ -29,12 +30,14 @@ impl<'a> Scope<'a> {
         }
     }
 
+    /// What the name stands for, where it is declared.
     pub fn get(&self, name: &[u8]) -> Option<Meaning>
         ensures { result ≡ find self.now name.now }
     {
         self.map.get(name).copied()
     }
 
+    /// Declares a name.
     pub fn add(&mut self, name: &'a [u8], meaning: Meaning) -> Result<(), AllocError>
         ensures { OnOk result (AddsName self.old self.new name.now meaning) }
     {

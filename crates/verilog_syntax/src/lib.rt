@@ -1,4 +1,6 @@
 //! Statements of a small part of Verilog: which statements the words of a text are, or where they are none.
+//!
+//! `NoMemory` is answered where memory ran out.
 #![tactic(auto)]
 
 mod error;

@@ -114,7 +114,8 @@ fn opening<'t, 'a>(
     }
 }
 
-/// The statements that the words of a text are. `end` is the line of the text's end.
+/// The statements that the words of a text are. `end` is the line of the text's end. `At` holds the line of the first
+/// place where none stands that may.
 pub fn statements<'a>(
     alloc: Global,
     words: &[Lexeme<'a>],

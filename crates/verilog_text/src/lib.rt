@@ -1,6 +1,8 @@
 //! Modules of a small part of Verilog: what they do, when they are valid, and their text.
 //!
 //! Their meaning, settled levels from cycle to cycle, is after IEEE 1364-2005, for this part of the language alone.
+//!
+//! `NoMemory` is answered where memory ran out.
 #![tactic(auto)]
 
 mod bit;

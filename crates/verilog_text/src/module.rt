@@ -28,18 +28,21 @@ impl Model for Assign {
 }
 
 impl Assign {
+    /// An assign: the target has the level of the expression.
     pub fn new(target: Target, bit: Bit) -> Assign
         ensures { result ≡ record { target = target; bit = logic bit } }
     {
         Assign { target, bit }
     }
 
+    /// The wire or output that is assigned.
     pub fn target(&self) -> Target
         ensures { result ≡ self.now.target }
     {
         self.target
     }
 
+    /// The expression whose level it has.
     pub fn bit(&self) -> &Bit
         ensures { logic result.now ≡ self.now.bit }
     {
@@ -70,12 +73,14 @@ impl Model for Reg {
 }
 
 impl Reg {
+    /// A register of this name and of `width` bits, of which bit 0 takes `next` at a clock edge.
     pub fn new(name: Name, width: u32, next: Bit) -> Reg
         ensures { result ≡ record { name = name; width = width; next = logic next } }
     {
         Reg { name, width, next }
     }
 
+    /// The name.
     pub fn name(&self) -> &Name
         ensures { result.now ≡ self.now.name }
     {
@@ -89,6 +94,7 @@ impl Reg {
         self.width
     }
 
+    /// What bit 0 takes at a clock edge.
     pub fn next(&self) -> &Bit
         ensures { logic result.now ≡ self.now.next }
     {
@@ -141,30 +147,35 @@ impl Module {
         }
     }
 
+    /// The names of the inputs, in order, without `in_`.
     pub fn inputs(&self) -> &[Name]
         ensures { result.now ≡ self.now.inputs }
     {
         self.inputs.as_slice()
     }
 
+    /// The names of the outputs, in order, without `out_`.
     pub fn outputs(&self) -> &[Name]
         ensures { result.now ≡ self.now.outputs }
     {
         self.outputs.as_slice()
     }
 
+    /// The names of the wires, in order.
     pub fn wires(&self) -> &[Name]
         ensures { result.now ≡ self.now.wires }
     {
         self.wires.as_slice()
     }
 
+    /// The registers, in order.
     pub fn regs(&self) -> &[Reg]
         ensures { result.now ≡ self.now.regs }
     {
         self.regs.as_slice()
     }
 
+    /// The assigns, in order: each names only wires of earlier ones.
     pub fn assigns(&self) -> &[Assign]
         ensures { result.now ≡ self.now.assigns }
     {

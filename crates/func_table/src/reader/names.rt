@@ -62,6 +62,7 @@ pub fn is_port_name(name: &[u8]) -> bool
     is_name(name) && name.len() <= 32 && !is_reserved(name) && !begins_with_underscore(name)
 }
 
+/// Whether an input or an output may have each of the names.
 pub fn are_port_names(names: &[&[u8]]) -> bool
     ensures { result ≡ list_all (λ n. is_port_name n.now) names.now }
 {

@@ -41,6 +41,7 @@ pub fn allows(stage: Stage, line: &Form<'_>) -> bool
     }
 }
 
+/// The first of the rules that are broken, in the order in which they are judged.
 pub fn first_of(bad: bool, doubled: bool, unknown: bool, many: bool, late: bool) -> Option<Rule>
     ensures { result ≡ first_of bad doubled unknown many late }
 {

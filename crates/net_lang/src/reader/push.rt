@@ -16,6 +16,7 @@ use rl_text::Name;
 use rl_time::NoMemory;
 use std::alloc::Global;
 
+/// Keeps a let that breaks no rule.
 pub fn push_let<'a>(
     alloc: Global,
     draft: &mut Draft<'a>,
@@ -47,6 +48,7 @@ pub fn push_let<'a>(
     Ok(())
 }
 
+/// Keeps an output that breaks no rule.
 pub fn push_output<'a>(
     alloc: Global,
     draft: &mut Draft<'a>,

@@ -33,6 +33,7 @@ impl<T: Drop> From<AllocFailed<T>> for ReadError {
     }
 }
 
+/// The words behind this sign, where it stands at the front; else `Syntax`.
 #[tactic(auto, unfolding(crate::specs::Reading::after_sign))]
 pub fn after_sign<'t, 'a>(ws: &'t [Word<'a>], text: &[u8]) -> Result<&'t [Word<'a>], ReadError>
     ensures { Gives (λ x. words x.now) result (after_sign text.now (words ws.now)) }

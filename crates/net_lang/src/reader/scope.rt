@@ -26,6 +26,7 @@ pub struct Scope<'a> {
 }
 
 impl<'a> Scope<'a> {
+    /// No names yet.
     pub fn new(alloc: Global) -> Scope<'a>
         ensures { (t : List ℕ) → find result t ≡ None }
     {
@@ -34,12 +35,14 @@ impl<'a> Scope<'a> {
         }
     }
 
+    /// What is known of the name, where it is declared.
     pub fn get(&self, name: &[u8]) -> Option<Known>
         ensures { result ≡ find self.now name.now }
     {
         self.map.get(name).copied()
     }
 
+    /// Declares a name.
     pub fn add(&mut self, name: &'a [u8], known: Known) -> Result<(), AllocError>
         ensures { OnOk result (AddsName self.old self.new name.now known) }
     {

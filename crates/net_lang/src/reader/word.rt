@@ -16,6 +16,7 @@ pub enum Key {
     NoName,
 }
 
+/// What a name is in an expression.
 #[tactic(auto, unfolding(crate::specs::Reading::keyword))]
 pub fn keyword(text: &[u8]) -> Key
     ensures { result ≡ keyword text.now }
@@ -35,6 +36,7 @@ pub fn keyword(text: &[u8]) -> Key
     }
 }
 
+/// What a word is in an expression.
 #[tactic(auto, unfolding(crate::specs::Reading::key_of))]
 pub fn key_of(w: &Word<'_>) -> Key
     ensures { result ≡ key_of (word w.now) }
