@@ -25,6 +25,8 @@ pub use running::run;
 pub use status::Status;
 
 #[cfg(test)]
+mod module_tests;
+#[cfg(test)]
 mod size_tests;
 #[cfg(test)]
 mod tests;

@@ -1,5 +1,5 @@
-//! Files at the limits: a table of 16 inputs and 256 rows, and 64 outputs.
-use crate::tests::output_of;
+//! Files at the limits: the widest table and window, 64 outputs, 65,536 register bits, and lets that double.
+use crate::tests::{doubling, expect_values, output_of};
 use itoa::Buffer;
 use std::alloc::Global;
 use std::process::Abort;
@@ -91,5 +91,43 @@ fn sixty_four_outputs_are_simulated(rt: HostRuntime) -> Result<(), Fail> {
     let module = output_of(&rt, alloc, &many_outputs(alloc)?, &["compile", "f"])?;
     let levels = output_of(&rt, alloc, &module, &["sim", "f", "66", "1"])?;
     assert_eq!(rt; levels, many_levels(alloc)?);
+    Ok(())
+}
+
+// 64,000 lists of times have the value 0, with seven rows.
+#[test]
+fn the_widest_window_of_three_inputs_is_tabulated(rt: HostRuntime) -> Result<(), Fail> {
+    let earliest = b"racenet 1\ninput a b c\noutput y = min(a, min(b, c))\n";
+    let table = b"racetable 1
+inputs a b c
+output y
+0 0 0 -> 0
+0 0 - -> 0
+0 - 0 -> 0
+0 - - -> 0
+- 0 0 -> 0
+- 0 - -> 0
+- - 0 -> 0
+";
+    let words = ["tabulate", "f", "y", "38"];
+    expect_values(&rt, rt.alloc(), earliest, &words, table)
+}
+
+#[test]
+fn as_many_register_bits_as_there_may_be(rt: HostRuntime) -> Result<(), Fail> {
+    let alloc = rt.alloc();
+    let late = b"racenet 1\ninput a\noutput y = inc(a, 65536)\n";
+    let module = output_of(&rt, alloc, late, &["compile", "f"])?;
+    let levels = output_of(&rt, alloc, &module, &["sim", "f", "3", "0"])?;
+    assert_eq!(rt; levels.as_slice(), b"y 000\n".as_slice());
+    Ok(())
+}
+
+#[test]
+fn doubling_lets_are_compiled(rt: HostRuntime) -> Result<(), Fail> {
+    let alloc = rt.alloc();
+    let module = output_of(&rt, alloc, &doubling(alloc, 64)?, &["compile", "f"])?;
+    let levels = output_of(&rt, alloc, &module, &["sim", "f", "4", "2"])?;
+    assert_eq!(rt; levels.as_slice(), b"y 0011\n".as_slice());
     Ok(())
 }

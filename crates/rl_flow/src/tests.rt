@@ -44,7 +44,7 @@ const TWICE_MODULE: &[u8] = b"module race(clk, rst, in_a, in_b, out_y, out_z);
 endmodule
 ";
 
-const RACE_MODULE: &[u8] = b"module race(clk, rst, in_a, in_b, out_y);
+pub const RACE_MODULE: &[u8] = b"module race(clk, rst, in_a, in_b, out_y);
   input clk;
   input rst;
   input in_a;
@@ -119,14 +119,14 @@ const PAIR: &[u8] = b"racetable 1\ninputs a b\noutput y\n0 3 -> 5\n1 0 -> 4\n";
 
 /// How a shelf and a sink behave: the bytes of a fetch and of a put at most, and the calls that fail, from 1.
 #[derive(Drop)]
-struct Outside<'a> {
+pub struct Outside<'a> {
     chunk: usize,
     fetch_fails: &'a [u64],
     put_chunk: usize,
     put_fails: &'a [u64],
 }
 
-const EASY: Outside<'static> = Outside {
+pub const EASY: Outside<'static> = Outside {
     chunk: 4096,
     fetch_fails: &[],
     put_chunk: 4096,
@@ -142,7 +142,7 @@ fn texts(alloc: Global, words: &[&str]) -> Result<Vec<String>, AllocError> {
 }
 
 // Runs the words over a shelf that holds one file, "f", and compares the status and what both sinks took.
-fn expect(
+pub fn expect(
     rt: &impl Abort,
     alloc: Global,
     file: &[u8],
@@ -179,7 +179,7 @@ pub fn output_of(
     files.push((String::from_str(alloc, "f")?, file.to_vec(alloc)?))?;
     assert!(rt; are_distinct(&files));
     let mut shelf = MemShelf::new(files, 65536, Vec::new(alloc));
-    let mut out = MemSink::new(alloc, 1048576, 65536, Vec::new(alloc))?;
+    let mut out = MemSink::new(alloc, 8388608, 65536, Vec::new(alloc))?;
     let mut err = MemSink::new(alloc, 4096, 4096, Vec::new(alloc))?;
     let words = texts(alloc, words)?;
     let status = run(alloc, &words, &mut shelf, &mut out, &mut err);
@@ -297,7 +297,7 @@ fn refuses_windows(rt: HostRuntime) -> Result<(), Fail> {
 }
 
 // The words give this text, and status 0.
-fn expect_values(
+pub fn expect_values(
     rt: &impl Abort,
     alloc: Global,
     file: &[u8],
@@ -402,67 +402,6 @@ fn refuses_tables(rt: HostRuntime) -> Result<(), Fail> {
     expect(&rt, alloc, FIRST, &["eval", "f", "4"], &EASY, two)
 }
 
-const TAPS_MODULE: &[u8] = b"module race(clk, rst, in_a, out_y, out_z);
-  input clk;
-  input rst;
-  input in_a;
-  output out_y;
-  output out_z;
-  reg [4:0] r0;
-  assign out_y = r0[2];
-  assign out_z = r0[4];
-  always @(posedge clk) if (rst) r0 <= 5'b0; else r0 <= {r0[3:0], in_a};
-endmodule
-";
-
-const DELAY_MODULE: &[u8] = b"module race(clk, rst, in_a, out_y);
-input clk; input rst; input in_a; output out_y; // one cycle later
-reg r; assign out_y = r;
-always @(posedge clk) if (rst) r <= 1'b0; else r <= in_a;
-endmodule";
-
-#[test]
-fn simulates_modules(rt: HostRuntime) -> Result<(), Fail> {
-    let alloc = rt.alloc();
-    let latch = [
-        (["sim", "f", "8", "4", "4"], b"y 00000000\n".as_slice()),
-        (["sim", "f", "8", "4", "5"], b"y 00001111\n".as_slice()),
-        (["sim", "f", "8", "7", "never"], b"y 00000001\n".as_slice()),
-        (["sim", "f", "8", "8", "never"], b"y 00000000\n".as_slice()),
-    ];
-    for (words, text) in latch {
-        expect_values(&rt, alloc, RACE_MODULE, &words, text)?;
-    }
-    expect_values(
-        &rt,
-        alloc,
-        DELAY_MODULE,
-        &["sim", "f", "3", "0"],
-        b"y 011\n",
-    )?;
-    let both = b"y 00001111\nz 00000011\n";
-    expect_values(&rt, alloc, TAPS_MODULE, &["sim", "f", "8", "1"], both)
-}
-
-// The name y, so many digits 0, and so many digits 1.
-fn row(alloc: Global, low: usize, high: usize) -> Result<Vec<u8>, Fail> {
-    let mut text = b"y ".to_vec(alloc)?;
-    text.extend_from_slice(&vec![in alloc; b'0'; low]?)?;
-    text.extend_from_slice(&vec![in alloc; b'1'; high]?)?;
-    text.extend_from_slice(b"\n")?;
-    Ok(text)
-}
-
-#[test]
-fn simulates_many_cycles(rt: HostRuntime) -> Result<(), Fail> {
-    let alloc = rt.alloc();
-    let never = output_of(&rt, alloc, DELAY_MODULE, &["sim", "f", "100", "never"])?;
-    assert_eq!(rt; never, row(alloc, 100, 0)?);
-    let late = output_of(&rt, alloc, DELAY_MODULE, &["sim", "f", "100000", "99990"])?;
-    assert_eq!(rt; late, row(alloc, 99991, 9)?);
-    Ok(())
-}
-
 #[test]
 fn modules_behave_as_their_networks_are_valued(rt: HostRuntime) -> Result<(), Fail> {
     let alloc = rt.alloc();
@@ -480,57 +419,8 @@ fn modules_behave_as_their_networks_are_valued(rt: HostRuntime) -> Result<(), Fa
     Ok(())
 }
 
-#[test]
-fn refuses_modules(rt: HostRuntime) -> Result<(), Fail> {
-    let alloc = rt.alloc();
-    let ports =
-        b"module race(clk, rst, in_a, out_y);\ninput clk;\ninput rst;\ninput in_a;\noutput out_y;\n";
-    let cases = [
-        (
-            b"assign out_y = in_a\nendmodule\n".as_slice(),
-            b"racelog: E70 file 1 line 6\n".as_slice(),
-        ),
-        (
-            b"assign out_y = in_b;\nendmodule\n",
-            b"racelog: E71 file 1 line 6\n",
-        ),
-        (
-            b"wire w;\nassign out_y = w;\nassign w = in_a;\nendmodule\n",
-            b"racelog: E72 file 1 line 7\n",
-        ),
-        (b"\nendmodule\n", b"racelog: E72 file 1 line 7\n"),
-        (
-            b"reg [0:0] r;\nassign out_y = in_a;\nendmodule\n",
-            b"racelog: E73 file 1 line 6\n",
-        ),
-        (
-            b"reg [65536:0] r;\nassign out_y = in_a;\nendmodule\n",
-            b"racelog: E74 file 1 line 6\n",
-        ),
-    ];
-    for (rest, line) in cases {
-        let mut text = ports.to_vec(alloc)?;
-        text.extend_from_slice(rest)?;
-        let want = (Status::Refused, b"".as_slice(), line);
-        expect(&rt, alloc, &text, &["sim", "f", "8", "4"], &EASY, want)?;
-    }
-    let one = (
-        Status::Refused,
-        b"".as_slice(),
-        b"racelog: E51 1\n".as_slice(),
-    );
-    expect(
-        &rt,
-        alloc,
-        DELAY_MODULE,
-        &["sim", "f", "8", "4", "4"],
-        &EASY,
-        one,
-    )
-}
-
 // Lets of which each takes the one before twice.
-fn doubling(alloc: Global, count: u64) -> Result<Vec<u8>, Fail> {
+pub fn doubling(alloc: Global, count: u64) -> Result<Vec<u8>, Fail> {
     let mut number = Buffer::new();
     let mut text = b"racenet 1\ninput a\nlet p0 = a\n".to_vec(alloc)?;
     for k in 1..=count {
@@ -693,6 +583,25 @@ fn tells_faults_of_reading_and_writing(rt: HostRuntime) -> Result<(), Fail> {
         &third_put,
         write_fault,
     )
+}
+
+// A standard error that fails at once changes no status.
+#[test]
+fn a_failing_error_stream_changes_no_status(rt: HostRuntime) -> Result<(), Fail> {
+    let alloc = rt.alloc();
+    let mut files = Vec::new(alloc);
+    files.push((String::from_str(alloc, "f")?, b"racenet 2\n".to_vec(alloc)?))?;
+    assert!(rt; are_distinct(&files));
+    let mut shelf = MemShelf::new(files, 4096, Vec::new(alloc));
+    let mut out = MemSink::new(alloc, 4096, 4096, Vec::new(alloc))?;
+    let mut err = MemSink::new(alloc, 0, 4096, Vec::new(alloc))?;
+    let words = texts(alloc, &["compile", "f"])?;
+    let refused = run(alloc, &words, &mut shelf, &mut out, &mut err);
+    let words = texts(alloc, &["compile"])?;
+    let no_words = run(alloc, &words, &mut shelf, &mut out, &mut err);
+    assert_eq!(rt; (refused, no_words), (Status::Refused, Status::Words));
+    assert!(rt; out.written().is_empty() && err.written().is_empty());
+    Ok(())
 }
 
 #[test]

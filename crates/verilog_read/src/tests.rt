@@ -117,6 +117,77 @@ fn declarations_are_judged(rt: HostRuntime) -> Result<(), Fail> {
     )
 }
 
+/// A header of one input and one output, whose declarations begin at line 2.
+const HEADER: &[u8] = b"module race(clk, rst, in_a, out_y);\n";
+
+#[test]
+fn ports_are_declared_in_their_order(rt: HostRuntime) -> Result<(), Fail> {
+    let alloc = rt.alloc();
+    let cases: [(&str, VerilogError); 6] = [
+        (
+            "input clk;\ninput rst;\noutput in_a;\nendmodule",
+            VerilogError::Name(4),
+        ),
+        (
+            "input clk;\ninput rst;\ninput in_a;\ninput out_y;\nendmodule",
+            VerilogError::Name(5),
+        ),
+        (
+            "input clk;\ninput rst;\noutput out_y;\nendmodule",
+            VerilogError::Name(4),
+        ),
+        (
+            "input clk;\ninput rst;\ninput in_a;\nwire w;\noutput out_y;\nendmodule",
+            VerilogError::Name(6),
+        ),
+        (
+            "input clk;\ninput rst;\nreg d;\ninput in_a;\nendmodule",
+            VerilogError::Name(5),
+        ),
+        ("input clk;\ninput clk;\nendmodule", VerilogError::Name(3)),
+    ];
+    for (body, error) in cases {
+        let mut text = HEADER.to_vec(alloc)?;
+        text.extend_from_slice(body.as_bytes())?;
+        assert!(rt; text.len() <= 10000);
+        check_refused(&rt, alloc, &text, error);
+    }
+    Ok(())
+}
+
+/// A header of so many inputs and outputs, whose names have so many bytes behind `in_p` and `out_p`.
+fn header(alloc: Global, inputs: u32, outputs: u32, bytes: u32) -> Result<Vec<u8>, Fail> {
+    let mut text = b"module race(clk, rst".to_vec(alloc)?;
+    let mut back = Vec::new(alloc);
+    put_pieces(&mut back, bytes, b"p")?;
+    put_numbered(&mut text, inputs, b", in_p", &back)?;
+    put_numbered(&mut text, outputs, b", out_p", &back)?;
+    text.extend_from_slice(b");\nendmodule\n")?;
+    Ok(text)
+}
+
+/// Those that may stand are refused at the end, where ports aren't declared.
+#[test]
+fn ports_are_1_to_64_of_at_most_32_bytes(rt: HostRuntime) -> Result<(), Fail> {
+    let alloc = rt.alloc();
+    let cases: [(u32, u32, u32, VerilogError); 8] = [
+        (1, 1, 0, VerilogError::Order(2)),
+        (64, 64, 0, VerilogError::Order(2)),
+        (0, 1, 0, VerilogError::Limit(1)),
+        (1, 0, 0, VerilogError::Limit(1)),
+        (65, 1, 0, VerilogError::Limit(1)),
+        (1, 65, 0, VerilogError::Limit(1)),
+        (1, 1, 30, VerilogError::Order(2)),
+        (1, 1, 31, VerilogError::Name(1)),
+    ];
+    for (inputs, outputs, bytes, error) in cases {
+        let text = header(alloc, inputs, outputs, bytes)?;
+        assert!(rt; text.len() <= 10000);
+        check_refused(&rt, alloc, &text, error);
+    }
+    Ok(())
+}
+
 #[test]
 fn assigns_are_judged(rt: HostRuntime) -> Result<(), Fail> {
     let alloc = rt.alloc();
@@ -142,6 +213,12 @@ fn assigns_are_judged(rt: HostRuntime) -> Result<(), Fail> {
         &rt,
         alloc,
         b"assign out_y = in_a[0];\nendmodule",
+        VerilogError::Name(7),
+    )?;
+    check_body(
+        &rt,
+        alloc,
+        b"assign out_y = ~out_y;\nendmodule",
         VerilogError::Name(7),
     )?;
     check_body(
@@ -194,6 +271,23 @@ fn always_statements_are_judged(rt: HostRuntime) -> Result<(), Fail> {
     check_body(&rt, alloc, other, VerilogError::Width(9))?;
     check_body(&rt, alloc, no_shift, VerilogError::Width(8))?;
     check_body(&rt, alloc, far_shift, VerilogError::Width(8))
+}
+
+#[test]
+fn always_statements_name_registers(rt: HostRuntime) -> Result<(), Fail> {
+    let alloc = rt.alloc();
+    let updates_wire =
+        b"reg d;\nwire w;\nalways @(posedge clk) if (rst) d <= 1'b0; else w <= in_a;\nendmodule";
+    let shifts_wire =
+        b"reg [1:0] d;\nwire w;\nalways @(posedge clk) if (rst) d <= 2'b0; else d <= {w[0:0], in_a};\nendmodule";
+    let shifts_other =
+        b"reg [1:0] d;\nreg [1:0] e;\nalways @(posedge clk) if (rst) d <= 2'b0; else d <= {e[0:0], in_a};\nendmodule";
+    let shifts_one =
+        b"reg d;\nalways @(posedge clk) if (rst) d <= 1'b0; else d <= {d[0:0], in_a};\nendmodule";
+    check_body(&rt, alloc, updates_wire, VerilogError::Name(9))?;
+    check_body(&rt, alloc, shifts_wire, VerilogError::Name(9))?;
+    check_body(&rt, alloc, shifts_other, VerilogError::Width(9))?;
+    check_body(&rt, alloc, shifts_one, VerilogError::Width(8))
 }
 
 #[test]
@@ -424,5 +518,22 @@ fn wires_end_at_65536(rt: HostRuntime) -> Result<(), Fail> {
     one_more.extend_from_slice(b"wire x;\nendmodule\n")?;
     assert!(rt; one_more.len() <= 10000000);
     check_refused(&rt, alloc, &one_more, VerilogError::Limit(65543));
+    Ok(())
+}
+
+/// Registers of 2,048 bits each.
+#[test]
+fn register_bits_end_at_65536(rt: HostRuntime) -> Result<(), Fail> {
+    let alloc = rt.alloc();
+    let cases: [(u32, VerilogError); 2] = [
+        (32, VerilogError::Order(39)),
+        (33, VerilogError::Limit(39)),
+    ];
+    for (count, error) in cases {
+        let mut body = Vec::new(alloc);
+        put_numbered(&mut body, count, b"reg [2047:0] d", b";\n")?;
+        body.extend_from_slice(b"endmodule\n")?;
+        check_body(&rt, alloc, &body, error)?;
+    }
     Ok(())
 }
