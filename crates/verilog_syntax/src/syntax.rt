@@ -11,9 +11,6 @@ use crate::written::Written;
 use rl_text::{Kind, Lexeme};
 use std::alloc::Global;
 
-/// How many parts may stand behind the first.
-const MORE_PARTS: u32 = 63;
-
 type Found<'t, 'a> = Result<(Written<'a>, &'t [Lexeme<'a>]), ReadError>;
 
 /// `[k]` behind a name.
@@ -102,7 +99,7 @@ fn product<'t, 'a>(alloc: Global, ws: &'t [Lexeme<'a>], depth: u32) -> Found<'t,
     ensures { Gives (λ x. (expression x.0, lexemes x.1.now)) result (product (unary depth) (lexemes ws.now)) }
 {
     let (mut all, mut rest) = unary(alloc, ws, depth)?;
-    for _ in 0..MORE_PARTS {
+    for _ in 0..63u32 {
         let Some(behind) = behind_sign(rest, b"&") else {
             return Ok((all, rest));
         };
@@ -122,7 +119,7 @@ fn sum<'t, 'a>(alloc: Global, ws: &'t [Lexeme<'a>], depth: u32) -> Found<'t, 'a>
     ensures { Gives (λ x. (expression x.0, lexemes x.1.now)) result (sum (unary depth) (lexemes ws.now)) }
 {
     let (mut all, mut rest) = product(alloc, ws, depth)?;
-    for _ in 0..MORE_PARTS {
+    for _ in 0..63u32 {
         let Some(behind) = behind_sign(rest, b"|") else {
             return Ok((all, rest));
         };
