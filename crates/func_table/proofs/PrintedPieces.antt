@@ -14,7 +14,7 @@ use Rattle.rl_text.specs.Pieces.{is_number, Piece, IsLongest, joined, AreLongest
 use Rattle.rl_text.specs.Tokens.{token, with_token, tokens_of, AreTokens}
 use Rattle.rl_text.specs.Lines.{Word, word_of, words_of}
 use Rattle.rl_text.specs.Front.{race_front, front}
-use Rattle.rl_text.proofs.Fronts.{front_is_longest}
+use Rattle.rl_text.specs.Laws.{FrontIsLongest}
 use Rattle.net_lang.specs.Grammar.{name, number, sign}
 
 abbrev pub with_word : Option Kind → List ℕ → List Word → List Word
@@ -26,27 +26,29 @@ abbrev pub words_in : List Piece → List Word
 words_in [] = []
 words_in (p ∷ ps) = with_word p.kind p.bytes (words_in ps)
 
--- the text falls into pieces, each the longest at its place, and these are their words
+-- each of the pieces is what is computed at the front of it and those behind
+abbrev pub AreFronts : List Piece → Type 0
+AreFronts [] = Unit {0}
+AreFronts (p ∷ ps) = (front style.Race (joined (p ∷ ps)) ≡ Some (p.kind, length p.bytes)) × AreFronts ps
+
+-- the text falls into such pieces, and these are their words
 pub record Reads (text : List ℕ) (ws : List Word) : Type 0 where
   pub pieces : List Piece
   pub split : text ≡ joined pieces
-  pub longest : AreLongest style.Race pieces []
+  pub fronts : AreFronts pieces
   pub words : ws ≡ words_in pieces
 
 pub reads_nothing : Reads [] []
-reads_nothing = record { pieces = []; split = refl; longest = tt; words = refl }
+reads_nothing = record { pieces = []; split = refl; fronts = tt; words = refl }
 
 -- a piece more at the front
 pub reads_more : (k : Option Kind) (bytes rest : List ℕ) (ws : List Word) → front style.Race (bytes ++ rest) ≡ Some (k, length bytes) → Reads rest ws → Reads (bytes ++ rest) (with_word k bytes ws)
 reads_more k bytes rest ws f r =
-    let p : Piece = record { kind = k; bytes = bytes } in
-    let l = front_is_longest style.Race k (length bytes) (bytes ++ rest) f in
-    let m : IsLongest style.Race p (bytes ++ rest) = subst (λ (b : List ℕ). IsLongest style.Race (record { kind = k; bytes = b }) (bytes ++ rest)) (take_at bytes rest (length bytes) refl) l in
-    let whole : bytes ++ rest ≡ joined (p ∷ r.pieces) ++ [] = ap (λ (b : List ℕ). bytes ++ b) r.split ∙ sym (append-nil (joined (p ∷ r.pieces))) in
+    let whole : bytes ++ rest ≡ bytes ++ joined r.pieces = ap (λ (b : List ℕ). bytes ++ b) r.split in
     record {
-      pieces = p ∷ r.pieces;
-      split = ap (λ (b : List ℕ). bytes ++ b) r.split;
-      longest = (subst (IsLongest style.Race p) whole m, r.longest);
+      pieces = record { kind = k; bytes = bytes } ∷ r.pieces;
+      split = whole;
+      fronts = (ap (front style.Race) (sym whole) ∙ f, r.fronts);
       words = ap (with_word k bytes) r.words;
     }
 
@@ -153,9 +155,17 @@ pub record HasWords (text : List ℕ) (ws : List Word) : Type 0 where
   pub lexed : AreTokens style.Race text tokens
   pub words : words_of text tokens ≡ ws ++ end_word ∷ []
 
-pub has_words : (text : List ℕ) (ws : List Word) → Reads text ws → HasWords text ws
-has_words text ws r = record {
+are_longest : FrontIsLongest → (ps : List Piece) → AreFronts ps → AreLongest style.Race ps []
+are_longest longest [] f = tt
+are_longest longest (p ∷ ps) f =
+    let text = joined (p ∷ ps) in
+    let l = longest style.Race p.kind (length p.bytes) text f.0 in
+    let m : IsLongest style.Race p text = subst (λ (b : List ℕ). IsLongest style.Race (record { kind = p.kind; bytes = b }) text) (take_at p.bytes (joined ps) (length p.bytes) refl) l in
+    (subst (IsLongest style.Race p) (sym (append-nil text)) m, are_longest longest ps f.1)
+
+pub has_words : FrontIsLongest → (text : List ℕ) (ws : List Word) → Reads text ws → HasWords text ws
+has_words longest text ws r = record {
   tokens = tokens_of [] r.pieces;
-  lexed = record { pieces = r.pieces; split = r.split; longest = r.longest; listed = refl };
+  lexed = record { pieces = r.pieces; split = r.split; longest = are_longest longest r.pieces r.fronts; listed = refl };
   words = words_are text [] r.pieces r.split ∙ ap (λ (vs : List Word). vs ++ end_word ∷ []) (sym r.words);
 }

@@ -8,6 +8,7 @@ use Rattle.std.proofs.lemmas.List.{append-nil, length-append, length-map}
 use Rattle.std.proofs.lemmas.List.Folds.{list_all-append, list_any-append}
 use Rattle.rl_text.specs.Names.{is_name}
 use Rattle.rl_text.specs.Lines.{lines}
+use Rattle.rl_text.specs.Laws.{FrontIsLongest}
 use Rattle.net_lang.specs.Rules.{is_reserved, is_port_name, begins_with_underscore, are_distinct}
 use Rattle.func_table.specs.declared.reader.rules.Stage.{Stage}
 use Rattle.func_table.specs.declared.reader.rules.Stage.TheVariants as stage
@@ -129,11 +130,11 @@ module _ (t : Table) (h : IsTable t) where
   printables n [] k = tt
   printables n (r ∷ rows) k = (record { entries = k.0.small_entries; out = k.0.small_out }, printables n rows k.1)
 
-  pub printed : SpellsTable (table_text t) t
-  printed =
+  pub printed : FrontIsLongest → SpellsTable (table_text t) t
+  printed longest =
       let text = table_text t in
       let reads = reads_table t (names_are t.inputs ports.0) (port_name_is t.output output_port) (printables (length t.inputs) t.rows h.rows) in
-      let w = has_words text (words_on (forms t)) reads in
+      let w = has_words longest text (words_on (forms t)) reads in
       let same = lines_words text w.tokens ∙ ap cut w.words ∙ cut_forms (forms t) in
       record {
         tokens = w.tokens;

@@ -5,7 +5,7 @@ use Rattle.rl_text.specs.declared.token.Token.{Token}
 use Rattle.rl_text.specs.declared.token.Style.TheVariants as style
 use Rattle.rl_text.specs.Tokens.{line_behind}
 use Rattle.rl_text.specs.Lines.{lines}
-use Rattle.rl_text.proofs.Cuts.{one_list, one_bad, not_both}
+use Rattle.rl_text.specs.Laws.{OneListOfTokens, OneBadPlace, TokensOrBadPlace}
 use Rattle.func_table.specs.declared.reader.rules.Rule.{Rule}
 use Rattle.func_table.specs.declared.reader.rules.Rule.TheVariants as rule
 use Rattle.func_table.specs.declared.reader.error.TableError.{TableError}
@@ -16,34 +16,28 @@ use Rattle.func_table.specs.Spelling.{AllStand, FirstBroken, SpellsTable, HasBad
 use Rattle.func_table.specs.Outcome.{error_of, IsCause}
 use Rattle.func_table.proofs.Verdicts.{not_broken, one_reading, one_first}
 
-pub one_table : (text : List ℕ) (s t : Table) → SpellsTable text s → SpellsTable text t → s ≡ t
-one_table text s t x y =
-    let same : y.tokens ≡ x.tokens = one_list style.Race text y.tokens x.tokens y.lexed x.lexed in
-    let other : AllStand nothing_yet (lines text x.tokens) y.last = subst (λ (ts : List Token). AllStand nothing_yet (lines text ts) y.last) same y.stand in
-    x.is ∙ ap (λ (z : SoFar). z.table) (one_reading nothing_yet x.last y.last (lines text x.tokens) x.stand other) ∙ sym y.is
+module _ (one_list : OneListOfTokens) where
+  pub one_table : (text : List ℕ) (s t : Table) → SpellsTable text s → SpellsTable text t → s ≡ t
+  one_table text s t x y =
+      let same : y.tokens ≡ x.tokens = one_list style.Race text y.tokens x.tokens y.lexed x.lexed in
+      let other : AllStand nothing_yet (lines text x.tokens) y.last = subst (λ (ts : List Token). AllStand nothing_yet (lines text ts) y.last) same y.stand in
+      x.is ∙ ap (λ (z : SoFar). z.table) (one_reading nothing_yet x.last y.last (lines text x.tokens) x.stand other) ∙ sym y.is
 
-not_spelled : (text : List ℕ) (t : Table) (r : Rule) (k : ℕ) → SpellsTable text t → BreaksFirst text r k → ⊥
-not_spelled text t r k x y =
-    let same : y.tokens ≡ x.tokens = one_list style.Race text y.tokens x.tokens y.lexed x.lexed in
-    not_broken nothing_yet x.last (lines text x.tokens) (line_behind text) k r x.stand x.ends (subst (λ (ts : List Token). FirstBroken nothing_yet (lines text ts) (line_behind text) r k) same y.first)
+  not_spelled : (text : List ℕ) (t : Table) (r : Rule) (k : ℕ) → SpellsTable text t → BreaksFirst text r k → ⊥
+  not_spelled text t r k x y =
+      let same : y.tokens ≡ x.tokens = one_list style.Race text y.tokens x.tokens y.lexed x.lexed in
+      not_broken nothing_yet x.last (lines text x.tokens) (line_behind text) k r x.stand x.ends (subst (λ (ts : List Token). FirstBroken nothing_yet (lines text ts) (line_behind text) r k) same y.first)
 
-pub no_cause : (text : List ℕ) (t : Table) (e : TableError) → SpellsTable text t → IsCause text e → e ≡ error.NoMemory
-no_cause text t (error.Syntax k) x (inl b) = absurd (not_both style.Race text x.tokens b.place x.lexed b.bad)
-no_cause text t (error.Syntax k) x (inr b) = absurd (not_spelled text t rule.Syntax k x b)
-no_cause text t (error.Count k) x b = absurd (not_spelled text t rule.Count k x b)
-no_cause text t error.NoMemory x b = refl
+module _ (one_list : OneListOfTokens) (not_both : TokensOrBadPlace) where
+  pub no_cause : (text : List ℕ) (t : Table) (e : TableError) → SpellsTable text t → IsCause text e → e ≡ error.NoMemory
+  no_cause text t (error.Syntax k) x (inl b) = absurd (not_both style.Race text x.tokens b.place x.lexed b.bad)
+  no_cause text t (error.Syntax k) x (inr b) = absurd (not_spelled one_list text t rule.Syntax k x b)
+  no_cause text t (error.Count k) x b = absurd (not_spelled one_list text t rule.Count k x b)
+  no_cause text t error.NoMemory x b = refl
 
 -- a rule that is broken, by a bad byte or first of all rules
 abbrev Broken : List ℕ → Rule → ℕ → Type 0
 Broken text r n = (HasBadByte text n × (r ≡ rule.Syntax)) ⊎ BreaksFirst text r n
-
-one_broken : (text : List ℕ) (r q : Rule) (n m : ℕ) → Broken text r n → Broken text q m → (r ≡ q) × (n ≡ m)
-one_broken text r q n m (inl x) (inl y) = (x.1 ∙ sym y.1, x.0.number ∙ ap (λ (p : ℕ). line_behind (take p text)) (one_bad style.Race text x.0.place y.0.place x.0.bad y.0.bad) ∙ sym y.0.number)
-one_broken text r q n m (inl x) (inr y) = absurd (not_both style.Race text y.tokens x.0.place y.lexed x.0.bad)
-one_broken text r q n m (inr x) (inl y) = absurd (not_both style.Race text x.tokens y.0.place x.lexed y.0.bad)
-one_broken text r q n m (inr x) (inr y) =
-    let same : y.tokens ≡ x.tokens = one_list style.Race text y.tokens x.tokens y.lexed x.lexed in
-    one_first nothing_yet (lines text x.tokens) (line_behind text) n m r q x.first (subst (λ (ts : List Token). FirstBroken nothing_yet (lines text ts) (line_behind text) q m) same y.first)
 
 -- an error that has a cause, but want of memory
 record Told (text : List ℕ) (e : TableError) : Type 0 where
@@ -58,9 +52,18 @@ told text (error.Syntax k) (inr b) h = record { told_rule = rule.Syntax; told_li
 told text (error.Count k) b h = record { told_rule = rule.Count; told_line = k; is = refl; broken = inr b }
 told text error.NoMemory b h = absurd (h refl)
 
-pub one_cause : (text : List ℕ) (e f : TableError) → IsCause text e → IsCause text f → (e ≡ error.NoMemory → ⊥) → (f ≡ error.NoMemory → ⊥) → e ≡ f
-one_cause text e f x y g h =
-    let a = told text e x g in
-    let b = told text f y h in
-    let same = one_broken text a.told_rule b.told_rule a.told_line b.told_line a.broken b.broken in
-    a.is ∙ (λ i. error_of (same.0 i) (same.1 i)) ∙ sym b.is
+module _ (one_list : OneListOfTokens) (one_bad : OneBadPlace) (not_both : TokensOrBadPlace) where
+  one_broken : (text : List ℕ) (r q : Rule) (n m : ℕ) → Broken text r n → Broken text q m → (r ≡ q) × (n ≡ m)
+  one_broken text r q n m (inl x) (inl y) = (x.1 ∙ sym y.1, x.0.number ∙ ap (λ (p : ℕ). line_behind (take p text)) (one_bad style.Race text x.0.place y.0.place x.0.bad y.0.bad) ∙ sym y.0.number)
+  one_broken text r q n m (inl x) (inr y) = absurd (not_both style.Race text y.tokens x.0.place y.lexed x.0.bad)
+  one_broken text r q n m (inr x) (inl y) = absurd (not_both style.Race text x.tokens y.0.place x.lexed y.0.bad)
+  one_broken text r q n m (inr x) (inr y) =
+      let same : y.tokens ≡ x.tokens = one_list style.Race text y.tokens x.tokens y.lexed x.lexed in
+      one_first nothing_yet (lines text x.tokens) (line_behind text) n m r q x.first (subst (λ (ts : List Token). FirstBroken nothing_yet (lines text ts) (line_behind text) q m) same y.first)
+
+  pub one_cause : (text : List ℕ) (e f : TableError) → IsCause text e → IsCause text f → (e ≡ error.NoMemory → ⊥) → (f ≡ error.NoMemory → ⊥) → e ≡ f
+  one_cause text e f x y g h =
+      let a = told text e x g in
+      let b = told text f y h in
+      let same = one_broken text a.told_rule b.told_rule a.told_line b.told_line a.broken b.broken in
+      a.is ∙ (λ i. error_of (same.0 i) (same.1 i)) ∙ sym b.is

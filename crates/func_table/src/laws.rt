@@ -12,6 +12,8 @@ ghost use Rattle.func_table.specs.Spelling.{SpellsTable};
 ghost use Rattle.func_table.specs.Outcome.{IsCause};
 ghost use Rattle.func_table.specs.Text.{table_text};
 
+use rl_text::{front_is_longest, one_bad_place, one_list_of_tokens, tokens_or_bad_place};
+
 /// Where rows are sound and one of them matches, the value is that row's output after the least of the times, in
 /// whatever order the rows stand.
 pub fn the_matching_row_decides()
@@ -28,19 +30,30 @@ pub fn no_matching_row()
 /// A text spells at most one table.
 pub fn one_table()
     ensures { (text : List ℕ) (s t : Table) → SpellsTable text s → SpellsTable text t → s ≡ t }
-{}
+{
+    one_list_of_tokens();
+}
 
 /// A text that spells a table has no cause of an error.
 pub fn no_cause()
     ensures { (text : List ℕ) (t : Table) (e : TableError) → SpellsTable text t → IsCause text e → e ≡ NoMemory }
-{}
+{
+    one_list_of_tokens();
+    tokens_or_bad_place();
+}
 
 /// A text has at most one cause of an error.
 pub fn one_cause()
     ensures { (text : List ℕ) (e f : TableError) → IsCause text e → IsCause text f → e ≢ NoMemory → f ≢ NoMemory → e ≡ f }
-{}
+{
+    one_list_of_tokens();
+    one_bad_place();
+    tokens_or_bad_place();
+}
 
 /// The printing of a table spells it.
 pub fn printing_spells()
     ensures { (t : Table) → IsTable t → SpellsTable (table_text t) t }
-{}
+{
+    front_is_longest();
+}

@@ -6,18 +6,15 @@ use Rattle.std.proofs.lemmas.Bool.{and_parts, and_from}
 use Rattle.std.proofs.lemmas.List.{append-nil}
 use Rattle.rl_text.specs.Names.{is_name}
 use Rattle.rl_text.specs.Lines.{lines}
+use Rattle.rl_text.specs.Laws.{FrontIsLongest}
 use Rattle.net_lang.specs.declared.reader.rules.Stage.{Stage}
 use Rattle.net_lang.specs.declared.reader.rules.Stage.TheVariants as stage
-use Rattle.net_lang.specs.declared.reader.error.NetError.{NetError}
-use Rattle.net_lang.specs.declared.reader.error.NetError.TheVariants.{NoMemory}
 use Rattle.net_lang.specs.Formula.{Equation, Net, net}
 use Rattle.net_lang.specs.Rules.{is_let_name, are_distinct, names_of, IsNetwork}
 use Rattle.net_lang.specs.Forms.{Header, Inputs}
 use Rattle.net_lang.specs.LineRules.{SoFar, nothing_yet, allows, first_rule, some_twice}
 use Rattle.net_lang.specs.Spelling.{SpellsNetwork}
-use Rattle.net_lang.specs.Outcome.{IsCause}
 use Rattle.net_lang.specs.Text.{network_text}
-use Rattle.net_lang.proofs.Laws.{one_network, no_cause}
 use Rattle.net_lang.proofs.PrintedPieces.{has_words}
 use Rattle.net_lang.proofs.PrintedWords.{let_form, output_form, forms, words_on, let_name_is, reads_network}
 use Rattle.net_lang.proofs.PrintedLines.{cut, lines_words, cut_forms, AllKeep, all_stand}
@@ -142,11 +139,11 @@ names_are : (xs : List (List ℕ)) → list_all is_let_name xs ≡ true → list
 names_are [] h = refl
 names_are (x ∷ xs) h = let a = and_parts (is_let_name x) (list_all is_let_name xs) h in and_from (is_name x) (list_all is_name xs) (let_name_is x a.0) (names_are xs a.1)
 
-pub printed : (n : Net) → IsNetwork n → SpellsNetwork (network_text n) n
-printed n h =
+pub printed : FrontIsLongest → (n : Net) → IsNetwork n → SpellsNetwork (network_text n) n
+printed longest n h =
     let text = network_text n in
     let reads = reads_network n (names_are n.inputs (ports_are_lets n.inputs h.input_names)) (lets_have_names n h) (outputs_have_names n h) in
-    let w = has_words text (words_on (forms n)) reads in
+    let w = has_words longest text (words_on (forms n)) reads in
     let same = lines_words text w.tokens ∙ ap cut w.words ∙ cut_forms (forms n) in
     record {
       tokens = w.tokens;
@@ -156,9 +153,3 @@ printed n h =
       ends = refl;
       network = refl;
     }
-
-pub one_printed : (n m : Net) → IsNetwork n → SpellsNetwork (network_text n) m → m ≡ n
-one_printed n m h s = one_network (network_text n) m n s (printed n h)
-
-pub no_printed_cause : (n : Net) (e : NetError) → IsNetwork n → IsCause (network_text n) e → e ≡ NoMemory
-no_printed_cause n e h c = no_cause (network_text n) n e (printed n h) c

@@ -1,5 +1,5 @@
 -- What the lines of a text say of the text.
-use Rattle.std.proofs.Common.{◌≡◌, ℕ, ◌+◌, ◌≤◌, ◌<◌, ◌^◌, Bool, true, List, [], ◌∷◌, ◌++◌, length, map, take, Option, Some, None, refl, ap, subst, ◌∙◌, arith, inl, inr}
+use Rattle.std.proofs.Common.{◌≡◌, ℕ, ◌+◌, ◌≤◌, ◌<◌, ◌^◌, Bool, true, false, List, [], ◌∷◌, ◌++◌, length, map, take, Option, Some, None, refl, ap, subst, ◌∙◌, arith, inl, inr}
 use Rattle.std.specs.Prelude.{flat_map, ◌⊎◌}
 use Rattle.std.specs.List.{slice_split}
 use Rattle.std.proofs.lemmas.List.{length-append, length-map, take_all}
@@ -7,14 +7,13 @@ use Rattle.std.proofs.lemmas.List.Splits.{length-slice_split}
 use Rattle.std.proofs.lemmas.List.Sums.{count_by-le-length}
 use Rattle.rl_text.specs.declared.words.Line as source
 use Rattle.rl_text.specs.declared.token.Kind.{Kind}
+use Rattle.rl_text.specs.declared.token.Kind.TheVariants as kind
 use Rattle.rl_text.specs.declared.token.Token.{Token}
-use Rattle.rl_text.specs.declared.token.Style.{Style}
 use Rattle.rl_text.specs.declared.token.Style.TheVariants as style
 use Rattle.rl_text.specs.Pieces.{Piece, is_piece, joined, AreLongest}
 use Rattle.rl_text.specs.Tokens.{with_token, tokens_of, line_behind, AreTokens, IsBad}
 use Rattle.rl_text.specs.Lines.{Line, line_of, lines, ends_line}
 use Rattle.rl_text.specs.Words.{line}
-use Rattle.rl_text.proofs.Cuts.{stops_at_end}
 use Rattle.net_lang.specs.declared.reader.rules.Rule.{Rule}
 use Rattle.net_lang.specs.declared.reader.rules.Rule.TheVariants as rule
 use Rattle.net_lang.specs.declared.reader.rules.Stage.{Stage}
@@ -31,26 +30,35 @@ use Rattle.net_lang.specs.Outcome.{Names, IsCause}
 
 -- ---- a text has few lines
 
-some_bytes : (s : Style) (k : Option Kind) (bytes : List ℕ) → is_piece s k bytes ≡ true → 1 ≤ length bytes
-some_bytes s k [] h = absurd ((stops_at_end s).nothing (record { kind = k; bytes = [] }) (record { piece = h; after = []; split = refl }))
-some_bytes s k (b ∷ bytes) h = omega arith
+is_no_piece : (k : Option Kind) → is_piece style.Race k [] ≡ false
+is_no_piece None = refl
+is_no_piece (Some kind.Name) = refl
+is_no_piece (Some kind.Number) = refl
+is_no_piece (Some kind.Bits) = refl
+is_no_piece (Some kind.Symbol) = refl
+is_no_piece (Some kind.EndLine) = refl
+is_no_piece (Some kind.End) = refl
+
+some_bytes : (k : Option Kind) (bytes : List ℕ) → is_piece style.Race k bytes ≡ true → 1 ≤ length bytes
+some_bytes k [] h = let e = is_no_piece k in absurd cc
+some_bytes k (b ∷ bytes) h = omega arith
 
 one_token : (k : Option Kind) (before bytes : List ℕ) (ts : List Token) → length (with_token k before bytes ts) ≤ length ts + 1
 one_token None before bytes ts = omega arith
 one_token (Some k) before bytes ts = omega arith
 
-few_tokens_of : (s : Style) (before after : List ℕ) (ps : List Piece) → AreLongest s ps after → length (tokens_of before ps) ≤ length (joined ps) + 1
-few_tokens_of s before after [] l = omega arith
-few_tokens_of s before after (p ∷ ps) l =
+few_tokens_of : (before after : List ℕ) (ps : List Piece) → AreLongest style.Race ps after → length (tokens_of before ps) ≤ length (joined ps) + 1
+few_tokens_of before after [] l = omega arith
+few_tokens_of before after (p ∷ ps) l =
     let a = one_token p.kind before p.bytes (tokens_of (before ++ p.bytes) ps) in
-    let b = few_tokens_of s (before ++ p.bytes) after ps l.1 in
-    let c = some_bytes s p.kind p.bytes l.0.begins.piece in
+    let b = few_tokens_of (before ++ p.bytes) after ps l.1 in
+    let c = some_bytes p.kind p.bytes l.0.begins.piece in
     let d = length-append p.bytes (joined ps) in
     omega (arith, a, b, c, d)
 
-few_tokens : (s : Style) (text : List ℕ) (ts : List Token) → AreTokens s text ts → length ts ≤ length text + 1
-few_tokens s text ts a =
-    let b = few_tokens_of s [] [] a.pieces a.longest in
+few_tokens : (text : List ℕ) (ts : List Token) → AreTokens style.Race text ts → length ts ≤ length text + 1
+few_tokens text ts a =
+    let b = few_tokens_of [] [] a.pieces a.longest in
     let c = ap length a.listed in
     let d = ap length a.split in
     omega (arith, b, c, d)
@@ -70,7 +78,7 @@ few_lines_of text (part ∷ parts) =
 pub few_lines : (text : List ℕ) (ts : List Token) (all : List source.Line) → AreTokens style.Race text ts → map line all ≡ lines text ts → length text ≤ 1048576 → length all < 2 ^ 31
 few_lines text ts all a e h =
     let p : Token → Bool = λ t. ends_line t.kind in
-    let b = few_tokens style.Race text ts a in
+    let b = few_tokens text ts a in
     let c = few_lines_of text (slice_split p ts) in
     let d = length-slice_split p ts in
     let f = count_by-le-length p ts in

@@ -8,14 +8,23 @@ ghost use Rattle.net_lang.specs.Spelling.{SpellsNetwork};
 ghost use Rattle.net_lang.specs.Outcome.{IsCause};
 ghost use Rattle.net_lang.specs.Text.{network_text};
 
+use crate::reader::{no_cause, one_network};
+use rl_text::front_is_longest;
+
 /// The printing of a network spells it.
 pub fn printing_spells()
     ensures { (n : Net) → IsNetwork n → SpellsNetwork (network_text n) n }
-{}
+{
+    front_is_longest();
+}
 
 /// What is printed is read back: a network that the text spells is the one that was printed, and no error but want of
 /// memory has a cause in it.
 pub fn printing_is_read()
     ensures network { (n m : Net) → IsNetwork n → SpellsNetwork (network_text n) m → m ≡ n }
     ensures cause { (n : Net) (e : NetError) → IsNetwork n → IsCause (network_text n) e → e ≡ NoMemory }
-{}
+{
+    printing_spells();
+    one_network();
+    no_cause();
+}

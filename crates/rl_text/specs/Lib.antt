@@ -6,3 +6,4 @@ pub mod Lexemes
 pub mod Front
 pub mod Words
 pub mod First
+pub mod Laws
