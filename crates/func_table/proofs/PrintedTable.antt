@@ -8,7 +8,8 @@ use Rattle.std.proofs.lemmas.List.{append-nil, length-append, length-map}
 use Rattle.std.proofs.lemmas.List.Folds.{list_all-append, list_any-append}
 use Rattle.rl_text.specs.Names.{is_name}
 use Rattle.rl_text.specs.Lines.{lines}
-use Rattle.rl_text.specs.Laws.{FrontIsLongest}
+use Rattle.rl_text.specs.Numbers.{IsConstant}
+use Rattle.rl_text.specs.Laws.{FrontIsLongest, DecimalsAreNumbers}
 use Rattle.net_lang.specs.Rules.{is_reserved, is_port_name, begins_with_underscore, are_distinct}
 use Rattle.func_table.specs.declared.reader.rules.Stage.{Stage}
 use Rattle.func_table.specs.declared.reader.rules.Stage.TheVariants as stage
@@ -19,65 +20,80 @@ use Rattle.func_table.specs.LineRules.{SoFar, nothing_yet, entry_of, row_of, is_
 use Rattle.func_table.specs.Spelling.{SpellsTable}
 use Rattle.func_table.specs.Text.{table_text}
 use Rattle.func_table.proofs.Parts.{eq_comm, row_stands}
-use Rattle.func_table.proofs.PrintedDigits.{decimal_is}
 use Rattle.func_table.proofs.PrintedPieces.{has_words}
-use Rattle.func_table.proofs.PrintedWords.{printed_entry, printed_entries, row_form, forms, words_on, IsPrintable, reads_table}
+use Rattle.func_table.proofs.PrintedWords.{printed_entry, printed_entries, row_form, forms, words_on, IsWritten, IsPrintable, reads_table}
 use Rattle.func_table.proofs.PrintedLines.{cut, lines_words, cut_forms, AllKeep, all_stand}
 
 -- ---- rows
-
-entry_again : (e : Option ℕ) → IsUpTo 255 e → (entry_of (printed_entry e) ≡ e) × (is_great e ≡ false) × IsPlainEntry (printed_entry e)
-entry_again (Some e) h = let d = decimal_is e h in (ap (λ (n : ℕ). Some n) d.value, le-ltb 255 e h, d.plain)
-entry_again None h = (refl, refl, tt)
-
-entries_again : (es : List (Option ℕ)) → AllByRecursion (IsUpTo 255) es → map entry_of (printed_entries es) ≡ es
-entries_again [] h = refl
-entries_again (e ∷ es) h = λ i. (entry_again e h.0).0 i ∷ entries_again es h.1 i
-
-none_great : (es : List (Option ℕ)) → AllByRecursion (IsUpTo 255) es → list_any is_great es ≡ false
-none_great [] h = refl
-none_great (e ∷ es) h = λ i. (entry_again e h.0).1 i || none_great es h.1 i
-
-all_plain : (es : List (Option ℕ)) → AllByRecursion (IsUpTo 255) es → AllByRecursion IsPlainEntry (printed_entries es)
-all_plain [] h = tt
-all_plain (e ∷ es) h = ((entry_again e h.0).2, all_plain es h.1)
-
-row_again : (n : ℕ) (r : Row) → IsRow n r → row_of (printed_entries r.entries) (decimal r.out) ≡ r
-row_again n r h = λ i. record { entries = entries_again r.entries h.small_entries i; out = (decimal_is r.out h.small_out).value i }
-
-few_great : (n : ℕ) (r : Row) → IsRow n r → has_great r ≡ false
-few_great n r h = λ i. none_great r.entries h.small_entries i || le-ltb 255 r.out h.small_out i
 
 some_entries : (es : List (Option ℕ)) → 1 ≤ length es → printed_entries es ≢ []
 some_entries [] h e = absurd (omega (arith, h))
 some_entries (x ∷ es) h e = cc
 
-row_formed : (n : ℕ) (r : Row) → 1 ≤ n → IsRow n r → IsFormed (row_form r)
-row_formed n r low h =
-    let l = h.one_for_each_input in
-    (some_entries r.entries (omega (arith, low, l)), all_plain r.entries h.small_entries, (decimal_is r.out h.small_out).plain)
-
-row_kept : (n k : ℕ) (r : Row) → IsRow n r → k + 1 ≤ 256 → row_breaks n k (row_of (printed_entries r.entries) (decimal r.out)) ≡ false
-row_kept n k r h low =
-    row_stands n k (printed_entries r.entries) (decimal r.out) (length-map r.entries printed_entry ∙ h.one_for_each_input) low (ap has_great (row_again n r h) ∙ few_great n r h)
-
 abbrev place : Stage → Table → SoFar
 place s t = record { stage = s; table = t }
 
-rows_keep : (t : Table) (done rows : List Row) → 1 ≤ length t.inputs → AllByRecursion (IsRow (length t.inputs)) rows → length t.rows ≤ 256 → t.rows ≡ done ++ rows
-    → AllKeep (place stage.Rows (table t.inputs t.output done)) (map row_form rows) (place stage.Rows t)
-rows_keep t done [] some h few q = λ i. place stage.Rows (table t.inputs t.output ((sym (append-nil done) ∙ sym q) i))
-rows_keep t done (r ∷ rows) some h few q =
-    let n = length t.inputs in
-    let l = ap length q in
-    let a = length-append done (r ∷ rows) in
-    let more : t.rows ≡ (done ++ r ∷ []) ++ rows = q ∙ sym (append_assoc done (r ∷ []) rows) in (
-      row_formed n r some h.0,
-      refl,
-      row_kept n (length done) r h.0 (omega (arith, l, a, few)),
-      subst (λ (x : Row). AllKeep (place stage.Rows (table t.inputs t.output (done ++ x ∷ []))) (map row_form rows) (place stage.Rows t)) (sym (row_again n r h.0))
-          (rows_keep t (done ++ r ∷ []) rows some h.1 few more),
-    )
+module _ (decimals : DecimalsAreNumbers) where
+  written : (n : ℕ) → n ≤ 255 → IsConstant n (decimal n)
+  written n h = decimals n (omega (arith, h))
+
+  entry_again : (e : Option ℕ) → IsUpTo 255 e → (entry_of (printed_entry e) ≡ e) × (is_great e ≡ false) × IsPlainEntry (printed_entry e)
+  entry_again (Some e) h = let d = written e h in (ap (λ (n : ℕ). Some n) d.value, le-ltb 255 e h, d.plain)
+  entry_again None h = (refl, refl, tt)
+
+  entries_again : (es : List (Option ℕ)) → AllByRecursion (IsUpTo 255) es → map entry_of (printed_entries es) ≡ es
+  entries_again [] h = refl
+  entries_again (e ∷ es) h = λ i. (entry_again e h.0).0 i ∷ entries_again es h.1 i
+
+  none_great : (es : List (Option ℕ)) → AllByRecursion (IsUpTo 255) es → list_any is_great es ≡ false
+  none_great [] h = refl
+  none_great (e ∷ es) h = λ i. (entry_again e h.0).1 i || none_great es h.1 i
+
+  all_plain : (es : List (Option ℕ)) → AllByRecursion (IsUpTo 255) es → AllByRecursion IsPlainEntry (printed_entries es)
+  all_plain [] h = tt
+  all_plain (e ∷ es) h = ((entry_again e h.0).2, all_plain es h.1)
+
+  row_again : (n : ℕ) (r : Row) → IsRow n r → row_of (printed_entries r.entries) (decimal r.out) ≡ r
+  row_again n r h = λ i. record { entries = entries_again r.entries h.small_entries i; out = (written r.out h.small_out).value i }
+
+  few_great : (n : ℕ) (r : Row) → IsRow n r → has_great r ≡ false
+  few_great n r h = λ i. none_great r.entries h.small_entries i || le-ltb 255 r.out h.small_out i
+
+  row_formed : (n : ℕ) (r : Row) → 1 ≤ n → IsRow n r → IsFormed (row_form r)
+  row_formed n r low h =
+      let l = h.one_for_each_input in
+      (some_entries r.entries (omega (arith, low, l)), all_plain r.entries h.small_entries, (written r.out h.small_out).plain)
+
+  row_kept : (n k : ℕ) (r : Row) → IsRow n r → k + 1 ≤ 256 → row_breaks n k (row_of (printed_entries r.entries) (decimal r.out)) ≡ false
+  row_kept n k r h low =
+      row_stands n k (printed_entries r.entries) (decimal r.out) (length-map r.entries printed_entry ∙ h.one_for_each_input) low (ap has_great (row_again n r h) ∙ few_great n r h)
+
+  rows_keep : (t : Table) (done rows : List Row) → 1 ≤ length t.inputs → AllByRecursion (IsRow (length t.inputs)) rows → length t.rows ≤ 256 → t.rows ≡ done ++ rows
+      → AllKeep (place stage.Rows (table t.inputs t.output done)) (map row_form rows) (place stage.Rows t)
+  rows_keep t done [] some h few q = λ i. place stage.Rows (table t.inputs t.output ((sym (append-nil done) ∙ sym q) i))
+  rows_keep t done (r ∷ rows) some h few q =
+      let n = length t.inputs in
+      let l = ap length q in
+      let a = length-append done (r ∷ rows) in
+      let more : t.rows ≡ (done ++ r ∷ []) ++ rows = q ∙ sym (append_assoc done (r ∷ []) rows) in (
+        row_formed n r some h.0,
+        refl,
+        row_kept n (length done) r h.0 (omega (arith, l, a, few)),
+        subst (λ (x : Row). AllKeep (place stage.Rows (table t.inputs t.output (done ++ x ∷ []))) (map row_form rows) (place stage.Rows t)) (sym (row_again n r h.0))
+            (rows_keep t (done ++ r ∷ []) rows some h.1 few more),
+      )
+
+  entry_written : (e : Option ℕ) → IsUpTo 255 e → IsWritten e
+  entry_written (Some e) h = written e h
+  entry_written None h = tt
+
+  entries_written : (es : List (Option ℕ)) → AllByRecursion (IsUpTo 255) es → AllByRecursion IsWritten es
+  entries_written [] h = tt
+  entries_written (e ∷ es) h = (entry_written e h.0, entries_written es h.1)
+
+  printables : (n : ℕ) (rows : List Row) → AllByRecursion (IsRow n) rows → AllByRecursion IsPrintable rows
+  printables n [] k = tt
+  printables n (r ∷ rows) k = (record { entries = entries_written r.entries k.0.small_entries; out = written r.out k.0.small_out }, printables n rows k.1)
 
 -- ---- names
 
@@ -110,7 +126,7 @@ names_are (x ∷ xs) h = let a = and_parts (is_port_name x) (list_all is_port_na
 
 -- ---- the whole text
 
-module _ (t : Table) (h : IsTable t) where
+module _ (decimals : DecimalsAreNumbers) (t : Table) (h : IsTable t) where
   ports : (list_all is_port_name t.inputs ≡ true) × (list_all is_port_name (t.output ∷ []) ≡ true)
   ports = and_parts (list_all is_port_name t.inputs) (list_all is_port_name (t.output ∷ [])) (sym (list_all-append is_port_name t.inputs (t.output ∷ [])) ∙ h.names)
 
@@ -124,16 +140,12 @@ module _ (t : Table) (h : IsTable t) where
   output_kept = λ i. not (output_port i) || last_is_new t.inputs t.output h.distinct i
 
   all_keep : AllKeep nothing_yet (forms t) (place stage.Rows t)
-  all_keep = (tt, refl, refl, (some_names t.inputs h.some_input, refl, inputs_kept, (tt, refl, output_kept, rows_keep t [] t.rows h.some_input h.rows h.few_rows refl)))
-
-  printables : (n : ℕ) (rows : List Row) → AllByRecursion (IsRow n) rows → AllByRecursion IsPrintable rows
-  printables n [] k = tt
-  printables n (r ∷ rows) k = (record { entries = k.0.small_entries; out = k.0.small_out }, printables n rows k.1)
+  all_keep = (tt, refl, refl, (some_names t.inputs h.some_input, refl, inputs_kept, (tt, refl, output_kept, rows_keep decimals t [] t.rows h.some_input h.rows h.few_rows refl)))
 
   pub printed : FrontIsLongest → SpellsTable (table_text t) t
   printed longest =
       let text = table_text t in
-      let reads = reads_table t (names_are t.inputs ports.0) (port_name_is t.output output_port) (printables (length t.inputs) t.rows h.rows) in
+      let reads = reads_table t (names_are t.inputs ports.0) (port_name_is t.output output_port) (printables decimals (length t.inputs) t.rows h.rows) in
       let w = has_words longest text (words_on (forms t)) reads in
       let same = lines_words text w.tokens ∙ ap cut w.words ∙ cut_forms (forms t) in
       record {

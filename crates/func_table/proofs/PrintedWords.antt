@@ -1,18 +1,17 @@
 -- The words of the printing of a table: those of its lines, each with a newline behind it.
-use Rattle.std.proofs.Common.{◌≡◌, ℕ, ◌≤◌, true, List, [], ◌∷◌, ◌++◌, map, Option, Some, None, refl, sym, ap, subst, ◌∙◌, append_assoc}
+use Rattle.std.proofs.Common.{◌≡◌, ℕ, true, List, [], ◌∷◌, ◌++◌, map, Option, Some, None, refl, sym, ap, subst, ◌∙◌, append_assoc}
 use Rattle.std.specs.Prelude.{codes, decimal, flat_map}
 use Rattle.std.specs.List.{list_all, AllByRecursion}
 use Rattle.std.proofs.lemmas.List.{append-nil}
 use Rattle.std.proofs.lemmas.Bool.{and_parts}
 use Rattle.rl_text.specs.Names.{is_name}
 use Rattle.rl_text.specs.Lines.{Word}
+use Rattle.rl_text.specs.Numbers.{IsConstant}
 use Rattle.net_lang.specs.Grammar.{name, number, sign}
 use Rattle.func_table.specs.Table.{Row, Table}
-use Rattle.func_table.specs.Rules.{IsUpTo}
 use Rattle.func_table.specs.Forms.{Form, Header, Inputs, Output, Entries, spelled_entry, spelled_form}
 use Rattle.func_table.specs.Text.{spaced_names, entry_text, entries_text, row_text, rows_text, table_text}
 use Rattle.func_table.proofs.PrintedPieces.{Reads, reads_nothing, stops, reads_name, reads_number, newline, reads_dash, reads_arrow, reads_space, reads_newline}
-use Rattle.func_table.proofs.PrintedDigits.{decimal_is}
 
 -- an entry as it is printed
 abbrev pub printed_entry : Option ℕ → Option (List ℕ)
@@ -39,19 +38,24 @@ line_words xs ws v more = append_assoc (xs ++ v ∷ []) ws more ∙ append_assoc
 
 -- ---- rows
 
--- the numbers of a row are small enough for their digits to be numbers
-pub record IsPrintable (r : Row) : Type 0 where
-  pub entries : AllByRecursion (IsUpTo 255) r.entries
-  pub out : r.out ≤ 255
+-- the digits of an entry's number write it
+abbrev pub IsWritten : Option ℕ → Type 0
+IsWritten (Some e) = IsConstant e (decimal e)
+IsWritten None = Unit {0}
 
-reads_entry : (e : Option ℕ) (rest : List ℕ) (ws : List Word) → IsUpTo 255 e → Reads rest ws → Reads (entry_text e ++ (32 ∷ rest)) (spelled_entry (printed_entry e) ∷ ws)
-reads_entry (Some e) rest ws h r = reads_number (decimal e) (32 ∷ rest) ws (decimal_is e h).number refl (reads_space rest ws r)
+-- the digits of each number of a row write it
+pub record IsPrintable (r : Row) : Type 0 where
+  pub entries : AllByRecursion IsWritten r.entries
+  pub out : IsConstant r.out (decimal r.out)
+
+reads_entry : (e : Option ℕ) (rest : List ℕ) (ws : List Word) → IsWritten e → Reads rest ws → Reads (entry_text e ++ (32 ∷ rest)) (spelled_entry (printed_entry e) ∷ ws)
+reads_entry (Some e) rest ws h r = reads_number (decimal e) (32 ∷ rest) ws h.number refl (reads_space rest ws r)
 reads_entry None rest ws h r = reads_dash rest ws (reads_space rest ws r)
 
 entry_bytes : (e es rest : List ℕ) → ((e ++ codes " ") ++ es) ++ rest ≡ e ++ (32 ∷ (es ++ rest))
 entry_bytes e es rest = simp append_assoc
 
-reads_entries : (es : List (Option ℕ)) (rest : List ℕ) (ws : List Word) → AllByRecursion (IsUpTo 255) es → Reads rest ws → Reads (entries_text es ++ rest) (map spelled_entry (printed_entries es) ++ ws)
+reads_entries : (es : List (Option ℕ)) (rest : List ℕ) (ws : List Word) → AllByRecursion IsWritten es → Reads rest ws → Reads (entries_text es ++ rest) (map spelled_entry (printed_entries es) ++ ws)
 reads_entries [] rest ws h r = r
 reads_entries (e ∷ es) rest ws h r =
     subst (λ (t : List ℕ). Reads t (map spelled_entry (printed_entries (e ∷ es)) ++ ws)) (sym (entry_bytes (entry_text e) (entries_text es) rest))
@@ -65,7 +69,7 @@ row_words es ws a y = simp append_assoc
 
 reads_row : (x : Row) (rest : List ℕ) (ws : List Word) → IsPrintable x → Reads rest ws → Reads (row_text x ++ rest) ((spelled_form (row_form x) ++ newline ∷ []) ++ ws)
 reads_row x rest ws h r =
-    let out = reads_number (decimal x.out) (10 ∷ rest) (newline ∷ ws) (decimal_is x.out h.out).number refl (reads_newline rest ws r) in
+    let out = reads_number (decimal x.out) (10 ∷ rest) (newline ∷ ws) h.out.number refl (reads_newline rest ws r) in
     let arrow = reads_arrow (32 ∷ (decimal x.out ++ (10 ∷ rest))) (number (decimal x.out) ∷ newline ∷ ws) (reads_space (decimal x.out ++ (10 ∷ rest)) (number (decimal x.out) ∷ newline ∷ ws) out) in
     let all = reads_entries x.entries (45 ∷ 62 ∷ 32 ∷ (decimal x.out ++ (10 ∷ rest))) (sign (codes "->") ∷ number (decimal x.out) ∷ newline ∷ ws) h.entries arrow in
     subst (λ (t : List ℕ). Reads t ((spelled_form (row_form x) ++ newline ∷ []) ++ ws)) (sym (row_bytes (entries_text x.entries) (decimal x.out) rest))

@@ -3,7 +3,7 @@ use Rattle.std.specs.Prelude.{ℕ, ◌+◌, Bool, true, false, not, ◌||◌, �
 use Rattle.std.specs.List.{list_any, list_all}
 use Rattle.std.specs.Str.{bytes_eq}
 use Rattle.net_lang.specs.Rules.{is_port_name, are_distinct}
-use Rattle.net_lang.specs.Names.{number_of}
+use Rattle.rl_text.specs.Numbers.{number_of}
 use Rattle.func_table.specs.declared.reader.rules.Stage.{Stage}
 use Rattle.func_table.specs.declared.reader.rules.Stage.TheVariants as stage
 use Rattle.func_table.specs.Table.{Row, Table, table}

@@ -12,7 +12,9 @@ ghost use Rattle.func_table.specs.Spelling.{SpellsTable};
 ghost use Rattle.func_table.specs.Outcome.{IsCause};
 ghost use Rattle.func_table.specs.Text.{table_text};
 
-use rl_text::{front_is_longest, one_bad_place, one_list_of_tokens, tokens_or_bad_place};
+use rl_text::{
+    decimals_are_numbers, front_is_longest, one_bad_place, one_list_of_tokens, tokens_or_bad_place,
+};
 
 /// Where rows are sound and one of them matches, the value is that row's output after the least of the times, in
 /// whatever order the rows stand.
@@ -56,4 +58,5 @@ pub fn printing_spells()
     ensures { (t : Table) → IsTable t → SpellsTable (table_text t) t }
 {
     front_is_longest();
+    decimals_are_numbers();
 }

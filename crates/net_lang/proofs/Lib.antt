@@ -7,7 +7,6 @@ pub mod Knowing
 pub mod Drafts
 pub mod Sound
 pub mod PrintedPieces
-pub mod PrintedDigits
 pub mod PrintedWords
 pub mod PrintedLines
 pub mod PrintedNames

@@ -2,7 +2,7 @@
 use Rattle.std.proofs.Common.{◌≡◌, ℕ, suc, ◌+◌, ◌*◌, ◌-◌, ◌≤◌, ◌<◌, List, [], ◌∷◌, length, drop, get_or, sym, ap, ◌∙◌, arith, add-one, drop-cons, inl, inr}
 use Rattle.std.specs.Prelude.{min}
 use Rattle.std.proofs.lemmas.Bool.{cases_lt}
-use Rattle.net_lang.specs.Names.{number_from}
+use Rattle.rl_text.specs.Numbers.{number_from}
 
 -- from the limit on nothing matters
 past_limit : (ds : List ℕ) (n : ℕ) → 1000001 ≤ n → 1000001 ≤ number_from n ds

@@ -7,13 +7,13 @@ use Rattle.std.proofs.lemmas.Bool.{and_parts, and_from, or_parts, or_left, or_ri
 use Rattle.std.proofs.lemmas.List.{get_or_append_left}
 use Rattle.std.proofs.lemmas.List.Folds.{list_any-append}
 use Rattle.std.proofs.lemmas.Slice.Eq.{bytes_eq-Decides}
+use Rattle.rl_text.specs.Laws.{DecimalsAreNumbers}
 use Rattle.net_lang.specs.Formula as f
-use Rattle.net_lang.specs.Formula.{Formula, Equation, Net}
+use Rattle.net_lang.specs.Formula.{Formula, Net}
 use Rattle.net_lang.specs.Rules.{is_let_name, are_distinct, names_of, IsOver, span}
 use Rattle.net_lang.specs.Names.{place_from, place_of, named, resolved, knows}
 use Rattle.net_lang.proofs.Knowing.{no_place, place_any, eq_comm}
 use Rattle.net_lang.proofs.PrintedWords.{written, IsPrintable}
-use Rattle.net_lang.proofs.PrintedDigits.{decimal_is}
 
 -- ---- distinct names
 
@@ -82,7 +82,7 @@ resolves m lets (f.Named n) s o p = λ i. named (s.no_input n o i) (s.own_let n 
 resolves m lets (f.Min a b) s o p = λ i. f.Min (resolves m lets a s o.0 p.0 i) (resolves m lets b s o.1 p.1 i)
 resolves m lets (f.Max a b) s o p = λ i. f.Max (resolves m lets a s o.0 p.0 i) (resolves m lets b s o.1 p.1 i)
 resolves m lets (f.Lt a b) s o p = λ i. f.Lt (resolves m lets a s o.0 p.0 i) (resolves m lets b s o.1 p.1 i)
-resolves m lets (f.Inc a c) s o p = λ i. f.Inc (resolves m lets a s o p.0 i) ((decimal_is c p.1).value i)
+resolves m lets (f.Inc a c) s o p = λ i. f.Inc (resolves m lets a s o p.0 i) (p.1.value i)
 
 -- a name that has a place stands somewhere
 has_place : (t : List ℕ) (xs : List (List ℕ)) (i : ℕ) → place_of t xs ≡ Some i → list_any (bytes_eq t) xs ≡ true
@@ -109,12 +109,12 @@ name_at p [] i h l = absurd (omega (arith, l))
 name_at p (x ∷ xs) zero h l = (and_parts (p x) (list_all p xs) h).0
 name_at p (x ∷ xs) (suc i) h l = name_at p xs i (and_parts (p x) (list_all p xs) h).1 (omega (arith, l))
 
-pub printable : (inputs lets : List (List ℕ)) (k : ℕ) (spans : List ℕ) (t : Formula) → list_all is_let_name inputs ≡ true → list_all is_let_name lets ≡ true → k ≤ length lets
+pub printable : DecimalsAreNumbers → (inputs lets : List (List ℕ)) (k : ℕ) (spans : List ℕ) (t : Formula) → list_all is_let_name inputs ≡ true → list_all is_let_name lets ≡ true → k ≤ length lets
     → IsOver (length inputs) k t → span spans t ≤ 1000000 → IsPrintable inputs lets t
-printable inputs lets k spans f.Never h g low o s = tt
-printable inputs lets k spans (f.Input n) h g low o s = name_at is_let_name inputs n h o
-printable inputs lets k spans (f.Named n) h g low o s = name_at is_let_name lets n g (omega (arith, low, o))
-printable inputs lets k spans (f.Min a b) h g low o s = (printable inputs lets k spans a h g low o.0 (omega (arith, s)), printable inputs lets k spans b h g low o.1 (omega (arith, s)))
-printable inputs lets k spans (f.Max a b) h g low o s = (printable inputs lets k spans a h g low o.0 (omega (arith, s)), printable inputs lets k spans b h g low o.1 (omega (arith, s)))
-printable inputs lets k spans (f.Lt a b) h g low o s = (printable inputs lets k spans a h g low o.0 (omega (arith, s)), printable inputs lets k spans b h g low o.1 (omega (arith, s)))
-printable inputs lets k spans (f.Inc a c) h g low o s = (printable inputs lets k spans a h g low o (omega (arith, s)), omega (arith, s))
+printable decimals inputs lets k spans f.Never h g low o s = tt
+printable decimals inputs lets k spans (f.Input n) h g low o s = name_at is_let_name inputs n h o
+printable decimals inputs lets k spans (f.Named n) h g low o s = name_at is_let_name lets n g (omega (arith, low, o))
+printable decimals inputs lets k spans (f.Min a b) h g low o s = (printable decimals inputs lets k spans a h g low o.0 (omega (arith, s)), printable decimals inputs lets k spans b h g low o.1 (omega (arith, s)))
+printable decimals inputs lets k spans (f.Max a b) h g low o s = (printable decimals inputs lets k spans a h g low o.0 (omega (arith, s)), printable decimals inputs lets k spans b h g low o.1 (omega (arith, s)))
+printable decimals inputs lets k spans (f.Lt a b) h g low o s = (printable decimals inputs lets k spans a h g low o.0 (omega (arith, s)), printable decimals inputs lets k spans b h g low o.1 (omega (arith, s)))
+printable decimals inputs lets k spans (f.Inc a c) h g low o s = (printable decimals inputs lets k spans a h g low o (omega (arith, s)), decimals c (omega (arith, s)))

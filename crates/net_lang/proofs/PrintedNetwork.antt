@@ -6,7 +6,7 @@ use Rattle.std.proofs.lemmas.Bool.{and_parts, and_from}
 use Rattle.std.proofs.lemmas.List.{append-nil}
 use Rattle.rl_text.specs.Names.{is_name}
 use Rattle.rl_text.specs.Lines.{lines}
-use Rattle.rl_text.specs.Laws.{FrontIsLongest}
+use Rattle.rl_text.specs.Laws.{FrontIsLongest, DecimalsAreNumbers}
 use Rattle.net_lang.specs.declared.reader.rules.Stage.{Stage}
 use Rattle.net_lang.specs.declared.reader.rules.Stage.TheVariants as stage
 use Rattle.net_lang.specs.Formula.{Equation, Net, net}
@@ -90,20 +90,20 @@ abbrev place : Stage → Net → SoFar
 place s m = record { stage = s; net = m }
 
 -- the outputs, behind all lets
-outputs_keep : (n : Net) (h : IsNetwork n) (done os : List Equation) (s : Stage) → may_output s ≡ true → n.outputs ≡ done ++ os → (os ≡ [] → s ≡ stage.Outputs)
+outputs_keep : DecimalsAreNumbers → (n : Net) (h : IsNetwork n) (done os : List Equation) (s : Stage) → may_output s ≡ true → n.outputs ≡ done ++ os → (os ≡ [] → s ≡ stage.Outputs)
     → AllKeep (place s (net n.inputs n.lets done)) (map (output_form n.inputs (names_of n.lets)) os) (place stage.Outputs n)
 unfolding may_output is_open
-outputs_keep n h done [] s may q end = λ i. place (end refl i) (net n.inputs n.lets ((sym (append-nil done) ∙ sym q) i))
-outputs_keep n h done (e ∷ os) s may q end =
+outputs_keep decimals n h done [] s may q end = λ i. place (end refl i) (net n.inputs n.lets ((sym (append-nil done) ∙ sym q) i))
+outputs_keep decimals n h done (e ∷ os) s may q end =
     let m = net n.inputs n.lets done in
-    let next = next_output n done e os h q in
+    let next = next_output decimals n done e os h q in
     let more : n.outputs ≡ (done ++ e ∷ []) ++ os = q ∙ sym (append_assoc done (e ∷ []) os) in
     let rule = output_kept m (names_of n.lets) e next (output_name_here n done e os h q) (few_outputs n (done ++ e ∷ []) os h more) in (
       is_formed m (names_of n.lets) e next,
       takes_output s e n.inputs (names_of n.lets) may,
       rule,
       subst (λ (x : Net). AllKeep (place stage.Outputs x) (map (output_form n.inputs (names_of n.lets)) os) (place stage.Outputs n)) (sym (output_extends m (names_of n.lets) e next))
-          (outputs_keep n h (done ++ e ∷ []) os stage.Outputs refl more (λ _. refl)),
+          (outputs_keep decimals n h (done ++ e ∷ []) os stage.Outputs refl more (λ _. refl)),
     )
 
 some_outputs : (xs : List Equation) → 1 ≤ length xs → xs ≡ [] → (s : Stage) → s ≡ stage.Outputs
@@ -111,27 +111,27 @@ some_outputs [] h e s = absurd (omega (arith, h))
 some_outputs (x ∷ xs) h e s = absurd cc
 
 -- the lets, and the outputs behind them
-lets_keep : (n : Net) (h : IsNetwork n) (done ls : List Equation) (s : Stage) → is_open s ≡ true → n.lets ≡ done ++ ls
+lets_keep : DecimalsAreNumbers → (n : Net) (h : IsNetwork n) (done ls : List Equation) (s : Stage) → is_open s ≡ true → n.lets ≡ done ++ ls
     → AllKeep (place s (net n.inputs done [])) (map (let_form n.inputs (names_of n.lets)) ls ++ map (output_form n.inputs (names_of n.lets)) n.outputs) (place stage.Outputs n)
 unfolding is_open
-lets_keep n h done [] s o q =
+lets_keep decimals n h done [] s o q =
     subst (λ (ls : List Equation). AllKeep (place s (net n.inputs ls [])) (map (output_form n.inputs (names_of n.lets)) n.outputs) (place stage.Outputs n)) (q ∙ append-nil done)
-    (outputs_keep n h [] n.outputs s (open_may_output s o) refl (λ none. some_outputs n.outputs h.some_output none s))
-lets_keep n h done (e ∷ ls) s o q =
+    (outputs_keep decimals n h [] n.outputs s (open_may_output s o) refl (λ none. some_outputs n.outputs h.some_output none s))
+lets_keep decimals n h done (e ∷ ls) s o q =
     let m = net n.inputs done [] in
-    let next = next_let n done e ls h q in
+    let next = next_let decimals n done e ls h q in
     let more : n.lets ≡ (done ++ e ∷ []) ++ ls = q ∙ sym (append_assoc done (e ∷ []) ls) in
     let rule = let_kept m (names_of n.lets) e next (let_name_here n done e ls h q) (few_lets n (done ++ e ∷ []) ls h more) in (
       is_formed m (names_of n.lets) e next,
       takes_let s e n.inputs (names_of n.lets) o,
       rule,
       subst (λ (x : Net). AllKeep (place stage.Lets x) (map (let_form n.inputs (names_of n.lets)) ls ++ map (output_form n.inputs (names_of n.lets)) n.outputs) (place stage.Outputs n)) (sym (let_extends m (names_of n.lets) e next))
-          (lets_keep n h (done ++ e ∷ []) ls stage.Lets refl more),
+          (lets_keep decimals n h (done ++ e ∷ []) ls stage.Lets refl more),
     )
 
-all_keep : (n : Net) → IsNetwork n → AllKeep nothing_yet (forms n) (place stage.Outputs n)
+all_keep : DecimalsAreNumbers → (n : Net) → IsNetwork n → AllKeep nothing_yet (forms n) (place stage.Outputs n)
 unfolding is_open
-all_keep n h = (tt, refl, header_kept, (some_inputs n.inputs h.some_input, refl, inputs_kept n h, lets_keep n h [] n.lets stage.Inputs refl refl))
+all_keep decimals n h = (tt, refl, header_kept, (some_inputs n.inputs h.some_input, refl, inputs_kept n h, lets_keep decimals n h [] n.lets stage.Inputs refl refl))
 
 -- ---- the whole text
 
@@ -139,17 +139,17 @@ names_are : (xs : List (List ℕ)) → list_all is_let_name xs ≡ true → list
 names_are [] h = refl
 names_are (x ∷ xs) h = let a = and_parts (is_let_name x) (list_all is_let_name xs) h in and_from (is_name x) (list_all is_name xs) (let_name_is x a.0) (names_are xs a.1)
 
-pub printed : FrontIsLongest → (n : Net) → IsNetwork n → SpellsNetwork (network_text n) n
-printed longest n h =
+pub printed : FrontIsLongest → DecimalsAreNumbers → (n : Net) → IsNetwork n → SpellsNetwork (network_text n) n
+printed longest decimals n h =
     let text = network_text n in
-    let reads = reads_network n (names_are n.inputs (ports_are_lets n.inputs h.input_names)) (lets_have_names n h) (outputs_have_names n h) in
+    let reads = reads_network n (names_are n.inputs (ports_are_lets n.inputs h.input_names)) (lets_have_names decimals n h) (outputs_have_names decimals n h) in
     let w = has_words longest text (words_on (forms n)) reads in
     let same = lines_words text w.tokens ∙ ap cut w.words ∙ cut_forms (forms n) in
     record {
       tokens = w.tokens;
       lexed = w.lexed;
       last = place stage.Outputs n;
-      stand = all_stand nothing_yet (forms n) (lines text w.tokens) (place stage.Outputs n) same (all_keep n h);
+      stand = all_stand nothing_yet (forms n) (lines text w.tokens) (place stage.Outputs n) same (all_keep decimals n h);
       ends = refl;
       network = refl;
     }

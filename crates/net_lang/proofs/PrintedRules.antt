@@ -7,6 +7,7 @@ use Rattle.std.proofs.lemmas.Bool.{and_parts, le-ltb}
 use Rattle.std.proofs.lemmas.List.{append-nil, map-append, length-append, length-map}
 use Rattle.std.proofs.lemmas.List.Folds.{list_all-append}
 use Rattle.std.proofs.lemmas.List.Sums.{fold-append, sum_by-append}
+use Rattle.rl_text.specs.Laws.{DecimalsAreNumbers}
 use Rattle.net_lang.specs.Formula.{Formula, Equation, Net, net}
 use Rattle.net_lang.specs.Rules.{is_let_name, is_port_name, begins_with_underscore, are_distinct, names_of, declared_names, joins, delays, nesting, span, IsOver, AreLets, let_spans, IsNetwork}
 use Rattle.net_lang.specs.Grammar.{IsWritten, written_nesting}
@@ -136,8 +137,8 @@ split_names : (xs : List Equation) (e : Equation) (ys : List Equation) → names
 split_names xs e ys = map-append (λ (x : Equation). x.name) xs (e ∷ ys)
 
 -- a let, behind the lets before it
-pub next_let : (n : Net) (done : List Equation) (e : Equation) (more : List Equation) → IsNetwork n → n.lets ≡ done ++ e ∷ more → IsNext (net n.inputs done []) (names_of n.lets) e
-next_let n done e more h q =
+pub next_let : DecimalsAreNumbers → (n : Net) (done : List Equation) (e : Equation) (more : List Equation) → IsNetwork n → n.lets ≡ done ++ e ∷ more → IsNext (net n.inputs done []) (names_of n.lets) e
+next_let decimals n done e more h q =
     let names : names_of n.lets ≡ names_of done ++ e.name ∷ names_of more = ap names_of q ∙ split_names done e more in
     let all : are_distinct (n.inputs ++ names_of n.lets) ≡ true = distinct_front (n.inputs ++ names_of n.lets) (names_of n.outputs) h.distinct in
     let split : n.inputs ++ names_of n.lets ≡ (n.inputs ++ names_of done) ++ e.name ∷ names_of more = ap (λ (x : List (List ℕ)). n.inputs ++ x) names ∙ sym (append_assoc n.inputs (names_of done) (e.name ∷ names_of more)) in
@@ -150,15 +151,15 @@ next_let n done e more h q =
     record {
       new = ap (list_any (bytes_eq e.name)) (append-nil (n.inputs ++ names_of done)) ∙ apart (n.inputs ++ names_of done) (e.name ∷ names_of more) 0 cut (omega arith);
       over = over;
-      printable = printable n.inputs (names_of n.lets) (length done) (let_spans done) e.body (ports_are_lets n.inputs h.input_names) h.let_names few over early;
+      printable = printable decimals n.inputs (names_of n.lets) (length done) (let_spans done) e.body (ports_are_lets n.inputs h.input_names) h.let_names few over early;
       scope = subst (IsScope n.inputs (names_of done)) (sym names) (scope n.inputs (names_of done) (e.name ∷ names_of more) (distinct_front (n.inputs ++ names_of done) (e.name ∷ names_of more) cut));
       early = early;
       shallow = all_here (λ (x : Equation). nesting x.body ≤ 64) done e more (subst (AllByRecursion (λ (x : Equation). nesting x.body ≤ 64)) q (all_front (λ (x : Equation). nesting x.body ≤ 64) n.lets n.outputs h.shallow));
     }
 
 -- an output, behind all lets and the outputs before it
-pub next_output : (n : Net) (done : List Equation) (e : Equation) (more : List Equation) → IsNetwork n → n.outputs ≡ done ++ e ∷ more → IsNext (net n.inputs n.lets done) (names_of n.lets) e
-next_output n done e more h q =
+pub next_output : DecimalsAreNumbers → (n : Net) (done : List Equation) (e : Equation) (more : List Equation) → IsNetwork n → n.outputs ≡ done ++ e ∷ more → IsNext (net n.inputs n.lets done) (names_of n.lets) e
+next_output decimals n done e more h q =
     let inner = n.inputs ++ names_of n.lets in
     let names : names_of n.outputs ≡ names_of done ++ e.name ∷ names_of more = ap names_of q ∙ split_names done e more in
     let split : inner ++ names_of n.outputs ≡ (inner ++ names_of done) ++ e.name ∷ names_of more = ap (λ (x : List (List ℕ)). inner ++ x) names ∙ sym (append_assoc inner (names_of done) (e.name ∷ names_of more)) in
@@ -170,7 +171,7 @@ next_output n done e more h q =
     record {
       new = apart (inner ++ names_of done) (e.name ∷ names_of more) 0 cut (omega arith);
       over = over;
-      printable = printable n.inputs (names_of n.lets) (length n.lets) (let_spans n.lets) e.body (ports_are_lets n.inputs h.input_names) h.let_names few over early;
+      printable = printable decimals n.inputs (names_of n.lets) (length n.lets) (let_spans n.lets) e.body (ports_are_lets n.inputs h.input_names) h.let_names few over early;
       scope = subst (IsScope n.inputs (names_of n.lets)) (append-nil (names_of n.lets)) (scope n.inputs (names_of n.lets) [] (distinct_front inner (names_of n.outputs) h.distinct));
       early = early;
       shallow = all_here (λ (x : Equation). nesting x.body ≤ 64) done e more (subst (AllByRecursion (λ (x : Equation). nesting x.body ≤ 64)) q (all_behind (λ (x : Equation). nesting x.body ≤ 64) n.lets n.outputs h.shallow));
@@ -208,9 +209,9 @@ all_from : {X : Type 0} (P : X → Type 0) (whole front behind : List X) → who
 all_from P whole front [] q each = tt
 all_from P whole front (x ∷ behind) q each = (each front x behind q, all_from P whole (front ++ x ∷ []) behind (q ∙ sym (append_assoc front (x ∷ []) behind)) each)
 
-pub lets_have_names : (n : Net) → IsNetwork n → AllByRecursion (HasNames n.inputs (names_of n.lets)) n.lets
-lets_have_names n h = all_from (HasNames n.inputs (names_of n.lets)) n.lets [] n.lets refl (λ done e more q. (let_name_is e.name (let_name_here n done e more h q), (next_let n done e more h q).printable))
+pub lets_have_names : DecimalsAreNumbers → (n : Net) → IsNetwork n → AllByRecursion (HasNames n.inputs (names_of n.lets)) n.lets
+lets_have_names decimals n h = all_from (HasNames n.inputs (names_of n.lets)) n.lets [] n.lets refl (λ done e more q. (let_name_is e.name (let_name_here n done e more h q), (next_let decimals n done e more h q).printable))
 
-pub outputs_have_names : (n : Net) → IsNetwork n → AllByRecursion (HasNames n.inputs (names_of n.lets)) n.outputs
-outputs_have_names n h = all_from (HasNames n.inputs (names_of n.lets)) n.outputs [] n.outputs refl (λ done e more q.
-    (let_name_is e.name (and_parts (is_let_name e.name) (not (begins_with_underscore e.name)) (output_name_here n done e more h q)).0, (next_output n done e more h q).printable))
+pub outputs_have_names : DecimalsAreNumbers → (n : Net) → IsNetwork n → AllByRecursion (HasNames n.inputs (names_of n.lets)) n.outputs
+outputs_have_names decimals n h = all_from (HasNames n.inputs (names_of n.lets)) n.outputs [] n.outputs refl (λ done e more q.
+    (let_name_is e.name (and_parts (is_let_name e.name) (not (begins_with_underscore e.name)) (output_name_here n done e more h q)).0, (next_output decimals n done e more h q).printable))

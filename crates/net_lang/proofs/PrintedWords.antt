@@ -1,11 +1,12 @@
 -- The words of the printing of a network: those of its lines, each with a newline behind it.
-use Rattle.std.proofs.Common.{◌≡◌, ℕ, ◌≤◌, true, false, not, List, [], ◌∷◌, ◌++◌, map, refl, sym, ap, subst, ◌∙◌, append_assoc}
+use Rattle.std.proofs.Common.{◌≡◌, ℕ, true, false, not, List, [], ◌∷◌, ◌++◌, map, refl, sym, ap, subst, ◌∙◌, append_assoc}
 use Rattle.std.specs.Prelude.{codes, decimal, flat_map, slice_index_or}
 use Rattle.std.specs.List.{list_all, AllByRecursion}
 use Rattle.std.proofs.lemmas.List.{append-nil}
 use Rattle.std.proofs.lemmas.Bool.{and_parts, not-true}
 use Rattle.rl_text.specs.Names.{is_name}
 use Rattle.rl_text.specs.Lines.{Word}
+use Rattle.rl_text.specs.Numbers.{IsConstant}
 use Rattle.net_lang.specs.Formula as f
 use Rattle.net_lang.specs.Formula.{Formula, Equation, Net}
 use Rattle.net_lang.specs.Rules.{is_reserved, is_let_name, names_of}
@@ -13,7 +14,6 @@ use Rattle.net_lang.specs.Grammar.{Expression, Never, Name, Min, Max, Lt, Inc, n
 use Rattle.net_lang.specs.Forms.{Form, Header, Inputs, Let, Output, spelled_form}
 use Rattle.net_lang.specs.Text.{call_text, formula_text, equation_text, equations_text, spaced_names, network_text}
 use Rattle.net_lang.proofs.PrintedPieces.{Reads, reads_nothing, stops, reads_name, reads_number, newline, reads_open, reads_close, reads_comma, reads_equals, reads_space, reads_newline}
-use Rattle.net_lang.proofs.PrintedDigits.{decimal_is}
 
 -- a formula as it is printed, by the names of the inputs and of the lets
 abbrev pub written : List (List ℕ) → List (List ℕ) → Formula → Expression
@@ -25,7 +25,7 @@ written inputs lets (f.Max a b) = Max (written inputs lets a) (written inputs le
 written inputs lets (f.Lt a b) = Lt (written inputs lets a) (written inputs lets b)
 written inputs lets (f.Inc a c) = Inc (written inputs lets a) (decimal c)
 
--- what it names has a name that a let may have, and its constants are no greater than a span may be
+-- what it names has a name that a let may have, and the digits of its constants write them
 abbrev pub IsPrintable : List (List ℕ) → List (List ℕ) → Formula → Type 0
 IsPrintable inputs lets f.Never = Unit {0}
 IsPrintable inputs lets (f.Input i) = is_let_name (slice_index_or inputs i []) ≡ true
@@ -33,7 +33,7 @@ IsPrintable inputs lets (f.Named j) = is_let_name (slice_index_or lets j []) ≡
 IsPrintable inputs lets (f.Min a b) = IsPrintable inputs lets a × IsPrintable inputs lets b
 IsPrintable inputs lets (f.Max a b) = IsPrintable inputs lets a × IsPrintable inputs lets b
 IsPrintable inputs lets (f.Lt a b) = IsPrintable inputs lets a × IsPrintable inputs lets b
-IsPrintable inputs lets (f.Inc a c) = IsPrintable inputs lets a × (c ≤ 1000000)
+IsPrintable inputs lets (f.Inc a c) = IsPrintable inputs lets a × IsConstant c (decimal c)
 
 pub let_name_is : (t : List ℕ) → is_let_name t ≡ true → is_name t ≡ true
 let_name_is t h = (and_parts (is_name t) _ (and_parts _ (not (is_reserved t)) h).0).0
@@ -48,7 +48,7 @@ is_written inputs lets (f.Named j) h = not_reserved (slice_index_or lets j []) h
 is_written inputs lets (f.Min a b) h = (is_written inputs lets a h.0, is_written inputs lets b h.1)
 is_written inputs lets (f.Max a b) h = (is_written inputs lets a h.0, is_written inputs lets b h.1)
 is_written inputs lets (f.Lt a b) h = (is_written inputs lets a h.0, is_written inputs lets b h.1)
-is_written inputs lets (f.Inc a c) h = (is_written inputs lets a h.0, (decimal_is c h.1).plain)
+is_written inputs lets (f.Inc a c) h = (is_written inputs lets a h.0, h.1.plain)
 
 -- ---- formulas
 
@@ -88,7 +88,7 @@ reads_formula inputs lets (f.Min a b) h = reads_call (codes "min") (formula_text
 reads_formula inputs lets (f.Max a b) h = reads_call (codes "max") (formula_text inputs lets a) (formula_text inputs lets b) (spelled (written inputs lets a)) (spelled (written inputs lets b)) refl (reads_formula inputs lets a h.0) (reads_formula inputs lets b h.1)
 reads_formula inputs lets (f.Lt a b) h = reads_call (codes "lt") (formula_text inputs lets a) (formula_text inputs lets b) (spelled (written inputs lets a)) (spelled (written inputs lets b)) refl (reads_formula inputs lets a h.0) (reads_formula inputs lets b h.1)
 reads_formula inputs lets (f.Inc a c) h =
-    reads_delay (codes "inc") (formula_text inputs lets a) (decimal c) (spelled (written inputs lets a)) refl (reads_formula inputs lets a h.0) (λ rest ws s r. reads_number (decimal c) rest ws (decimal_is c h.1).number s r)
+    reads_delay (codes "inc") (formula_text inputs lets a) (decimal c) (spelled (written inputs lets a)) refl (reads_formula inputs lets a h.0) (λ rest ws s r. reads_number (decimal c) rest ws h.1.number s r)
 
 -- ---- lines
 

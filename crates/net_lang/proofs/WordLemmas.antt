@@ -10,7 +10,8 @@ use Rattle.net_lang.specs.declared.reader.word.Key.{Key}
 use Rattle.net_lang.specs.declared.reader.word.Key.TheVariants as key
 use Rattle.rl_text.specs.Lines.{Word}
 use Rattle.net_lang.specs.Rules.{is_reserved}
-use Rattle.net_lang.specs.Grammar.{name, number, sign, is_plain}
+use Rattle.net_lang.specs.Grammar.{name, number, sign}
+use Rattle.rl_text.specs.Numbers.{is_plain}
 use Rattle.net_lang.specs.Reading.{◌>>=◌, is_symbol, is_number, after_sign, constant, keyword, key_at, key_of}
 
 pub some_is : {A : Type 0} (x y : A) → Some x ≡ Some y → x ≡ y

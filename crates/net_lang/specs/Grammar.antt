@@ -1,7 +1,8 @@
 -- The grammar of expressions: which words each is spelled by.
-use Rattle.std.specs.Prelude.{◌≡◌, ◌≤◌, ℕ, suc, max, Bool, true, false, not, ◌==◌, List, [], ◌∷◌, ◌++◌, codes}
+use Rattle.std.specs.Prelude.{◌≡◌, ◌≤◌, ℕ, suc, max, true, false, List, [], ◌∷◌, ◌++◌, codes}
 use Rattle.rl_text.specs.declared.token.Kind.TheVariants as kind
 use Rattle.rl_text.specs.Lines.{Word}
+use Rattle.rl_text.specs.Numbers.{is_plain}
 use Rattle.net_lang.specs.Rules.{is_reserved}
 
 -- an expression as it is written, with the bytes of its names and numbers
@@ -39,12 +40,6 @@ spelled (Min a b) = name (codes "min") ∷ open_ ∷ spelled a ++ comma ∷ spel
 spelled (Max a b) = name (codes "max") ∷ open_ ∷ spelled a ++ comma ∷ spelled b ++ close ∷ []
 spelled (Lt a b) = name (codes "lt") ∷ open_ ∷ spelled a ++ comma ∷ spelled b ++ close ∷ []
 spelled (Inc a n) = name (codes "inc") ∷ open_ ∷ spelled a ++ comma ∷ number n ∷ close ∷ []
-
--- no leading zero, but for 0 itself
-abbrev pub is_plain : List ℕ → Bool
-is_plain [] = false
-is_plain (d ∷ []) = true
-is_plain (d ∷ e ∷ ds) = not (d == 48)
 
 -- no name is a reserved word, and no constant has a leading zero
 abbrev pub IsWritten : Expression → Type 0

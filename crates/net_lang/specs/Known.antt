@@ -13,7 +13,8 @@ use Rattle.net_lang.specs.Formula as f
 use Rattle.net_lang.specs.Formula.{Formula, Net}
 use Rattle.net_lang.specs.Rules.{names_of, let_spans}
 use Rattle.net_lang.specs.Grammar.{Expression, Never, Name, Min, Max, Lt, Inc}
-use Rattle.net_lang.specs.Names.{place_of, number_of}
+use Rattle.net_lang.specs.Names.{place_of}
+use Rattle.rl_text.specs.Numbers.{number_of}
 
 abbrev pub find : source.Scope → List ℕ → Option Known
 find s t = get_by (λ k. slice_cmp nat_cmp t k.now) s.map

@@ -1,7 +1,8 @@
 -- What the names of a network in the making stand for.
-use Rattle.std.specs.Prelude.{ℕ, ◌+◌, ◌*◌, ◌-◌, Bool, true, ◌&&◌, if◌then◌else◌, List, [], ◌∷◌, ◌++◌, Option, Some, None}
+use Rattle.std.specs.Prelude.{ℕ, ◌+◌, Bool, true, ◌&&◌, if◌then◌else◌, List, [], ◌∷◌, ◌++◌, Option, Some, None}
 use Rattle.std.specs.List.{list_any}
 use Rattle.std.specs.Str.{bytes_eq}
+use Rattle.rl_text.specs.Numbers.{number_of}
 use Rattle.net_lang.specs.Formula as f
 use Rattle.net_lang.specs.Formula.{Formula, Net}
 use Rattle.net_lang.specs.Rules.{names_of}
@@ -14,14 +15,6 @@ place_from i name (n ∷ names) = if bytes_eq name n then Some i else place_from
 
 abbrev pub place_of : List ℕ → List (List ℕ) → Option ℕ
 place_of name names = place_from 0 name names
-
--- the number that these digits write
-abbrev pub number_from : ℕ → List ℕ → ℕ
-number_from n [] = n
-number_from n (d ∷ digits) = number_from (n * 10 + (d - 48)) digits
-
-abbrev pub number_of : List ℕ → ℕ
-number_of digits = number_from 0 digits
 
 -- the formula of a name, by its places among the inputs and among the lets; Never where it has none
 abbrev pub named : Option ℕ → Option ℕ → Formula

@@ -6,7 +6,8 @@ use Rattle.rl_text.specs.declared.token.Kind.TheVariants as kind
 use Rattle.rl_text.specs.Lines.{Word}
 use Rattle.net_lang.specs.declared.reader.word.Key.{Key}
 use Rattle.net_lang.specs.declared.reader.word.Key.TheVariants as key
-use Rattle.net_lang.specs.Grammar.{Expression, Never, Name, Min, Max, Lt, Inc, is_plain}
+use Rattle.net_lang.specs.Grammar.{Expression, Never, Name, Min, Max, Lt, Inc}
+use Rattle.rl_text.specs.Numbers.{is_plain}
 
 -- what a word is in an expression
 unfoldable pub keyword : List ℕ → Key

@@ -6,3 +6,4 @@ pub mod Cuts
 pub mod Spans
 pub mod Parts
 pub mod Firsts
+pub mod Decimals

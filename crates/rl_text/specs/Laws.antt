@@ -1,11 +1,12 @@
 -- What the laws of texts and their tokens say.
-use Rattle.std.specs.Prelude.{◌≡◌, ℕ, List, take, Option, Some}
+use Rattle.std.specs.Prelude.{◌≡◌, ◌<◌, ◌^◌, ℕ, List, take, Option, Some, decimal}
 use Rattle.rl_text.specs.declared.token.Kind.{Kind}
 use Rattle.rl_text.specs.declared.token.Style.{Style}
 use Rattle.rl_text.specs.declared.token.Token.{Token}
 use Rattle.rl_text.specs.Pieces.{IsLongest}
 use Rattle.rl_text.specs.Tokens.{AreTokens, IsBad}
 use Rattle.rl_text.specs.Front.{front}
+use Rattle.rl_text.specs.Numbers.{IsConstant}
 
 -- the piece that is computed at the front of a text is the longest that the text can begin with
 abbrev pub FrontIsLongest : Type 0
@@ -22,3 +23,7 @@ OneBadPlace = (s : Style) (text : List ℕ) (p q : ℕ) → IsBad s text p → I
 -- no text has both tokens and a place at which nothing stands
 abbrev pub TokensOrBadPlace : Type 0
 TokensOrBadPlace = (s : Style) (text : List ℕ) (ts : List Token) (p : ℕ) → AreTokens s text ts → IsBad s text p → ⊥
+
+-- the decimal digits of a number write it, with no leading zero
+abbrev pub DecimalsAreNumbers : Type 0
+DecimalsAreNumbers = (n : ℕ) → n < 2 ^ 64 → IsConstant n (decimal n)

@@ -1,5 +1,6 @@
 pub mod Names
 pub mod Pieces
+pub mod Numbers
 pub mod Tokens
 pub mod Lines
 pub mod Lexemes

@@ -3,7 +3,7 @@ ghost use Rattle.std.specs.Prelude.{◌≡◌, ℕ, List};
 ghost use Rattle.rl_text.specs.declared.token.Style.{Style};
 ghost use Rattle.rl_text.specs.Lines.{Word};
 ghost use Rattle.rl_text.specs.First.{BeginsWith};
-ghost use Rattle.rl_text.specs.Laws.{FrontIsLongest, OneListOfTokens, OneBadPlace, TokensOrBadPlace};
+ghost use Rattle.rl_text.specs.Laws.{FrontIsLongest, OneListOfTokens, OneBadPlace, TokensOrBadPlace, DecimalsAreNumbers};
 
 /// The piece that is computed at the front of a text is the longest that the text can begin with.
 pub fn front_is_longest()
@@ -28,4 +28,10 @@ pub fn tokens_or_bad_place()
 /// A text begins with at most one word.
 pub fn one_first_word()
     ensures { (s : Style) (text : List ℕ) (v w : Word) → BeginsWith s text v → BeginsWith s text w → v ≡ w }
+{}
+
+/// The decimal digits of a number are a number as texts write it: they have no leading zero, and their value is the
+/// number.
+pub fn decimals_are_numbers()
+    ensures { DecimalsAreNumbers }
 {}

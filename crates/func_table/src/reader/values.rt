@@ -1,7 +1,7 @@
 //! The numbers that a row writes.
 ghost use Rattle.std.specs.Prelude.{◌≡◌, map, nat_lt, min};
 ghost use Rattle.std.specs.List.{list_any};
-ghost use Rattle.net_lang.specs.Names.{number_of};
+ghost use Rattle.rl_text.specs.Numbers.{number_of};
 ghost use Rattle.func_table.specs.LineRules.{entry_of, row_of, is_great, has_great};
 ghost use Rattle.func_table.specs.Draft.{written_entry, Makes};
 

@@ -1,7 +1,7 @@
 //! The form that the words of a line are.
 ghost use Rattle.std.specs.Prelude.{◌≡◌, map};
 ghost use Rattle.rl_text.specs.Words.{word, words};
-ghost use Rattle.net_lang.specs.Grammar.{is_plain};
+ghost use Rattle.rl_text.specs.Numbers.{is_plain};
 ghost use Rattle.func_table.specs.FormReading.{is_name, is_sign, is_plain_number, names_at, entry_at, entries_at, out_at, row_at, is_one, one_name, form_at};
 ghost use Rattle.func_table.specs.Draft.{written_entry, form, Gives};
 

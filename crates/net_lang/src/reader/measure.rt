@@ -1,7 +1,6 @@
 //! What an expression, as it is written, comes to.
 ghost use Rattle.std.specs.Prelude.{◌≡◌, ◌≤◌, min, IfOk};
-ghost use Rattle.net_lang.specs.Rules.{is_reserved, is_let_name, is_port_name};
-ghost use Rattle.net_lang.specs.Names.{number_of};
+ghost use Rattle.rl_text.specs.Numbers.{number_of};
 ghost use Rattle.net_lang.specs.Known.{find, IsSmall, found_formula, found_span, finds_all, written_joins, written_delays};
 ghost use Rattle.net_lang.specs.Written.{expression};
 ghost use Rattle.net_lang.specs.View.{formula};

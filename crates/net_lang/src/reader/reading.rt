@@ -1,6 +1,6 @@
 ghost use Rattle.std.specs.Prelude.{◌≡◌};
 ghost use Rattle.rl_text.specs.Words.{words};
-ghost use Rattle.net_lang.specs.Grammar.{is_plain};
+ghost use Rattle.rl_text.specs.Numbers.{is_plain};
 ghost use Rattle.net_lang.specs.Reading.{after_sign, constant, pair, delay, expr_at};
 ghost use Rattle.net_lang.specs.Written.{expression, Gives};
 ghost use Rattle.net_lang.specs.declared.reader.reading.ReadError.TheVariants.{NoMemory};

@@ -1,6 +1,6 @@
 use Rattle.std.proofs.Common.{◌≡◌, ◌≤◌, drop}
 use Rattle.std.specs.Prelude.{min}
-use Rattle.net_lang.specs.Names.{number_from, number_of}
+use Rattle.rl_text.specs.Numbers.{number_from, number_of}
 use Rattle.net_lang.proofs.reader.measure.number.Given as goal
 
 abbrev pub invariant-loop-d : goal.invariant-loop-d
