@@ -10,7 +10,6 @@ pub mod Parts
 pub mod Lines
 pub mod Whole
 pub mod TextLaws
-pub mod PrintedPieces
 pub mod PrintedWords
 pub mod PrintedLines
 pub mod PrintedTable

@@ -10,7 +10,7 @@ use Rattle.net_lang.specs.Grammar.{name, number, sign}
 use Rattle.func_table.specs.Forms.{Form, Header, Inputs, Output, Entries, spelled_entry, spelled_form, IsFormed}
 use Rattle.func_table.specs.LineRules.{SoFar, allows, after, breaks_count}
 use Rattle.func_table.specs.Spelling.{AllStand}
-use Rattle.func_table.proofs.PrintedPieces.{newline, end_word}
+use Rattle.rl_text.specs.Writing.{newline, end_word}
 use Rattle.func_table.proofs.PrintedWords.{words_on, line_words}
 
 abbrev some_line : List Word → List (List Word)

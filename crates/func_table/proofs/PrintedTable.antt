@@ -9,7 +9,7 @@ use Rattle.std.proofs.lemmas.List.Folds.{list_all-append, list_any-append}
 use Rattle.rl_text.specs.Names.{is_name}
 use Rattle.rl_text.specs.Lines.{lines}
 use Rattle.rl_text.specs.Numbers.{IsConstant}
-use Rattle.rl_text.specs.Laws.{FrontIsLongest, DecimalsAreNumbers}
+use Rattle.rl_text.specs.Laws.{WrittenHasWords, DecimalsAreNumbers}
 use Rattle.net_lang.specs.Rules.{is_reserved, is_port_name, begins_with_underscore, are_distinct}
 use Rattle.func_table.specs.declared.reader.rules.Stage.{Stage}
 use Rattle.func_table.specs.declared.reader.rules.Stage.TheVariants as stage
@@ -20,8 +20,7 @@ use Rattle.func_table.specs.LineRules.{SoFar, nothing_yet, entry_of, row_of, is_
 use Rattle.func_table.specs.Spelling.{SpellsTable}
 use Rattle.func_table.specs.Text.{table_text}
 use Rattle.func_table.proofs.Parts.{eq_comm, row_stands}
-use Rattle.func_table.proofs.PrintedPieces.{has_words}
-use Rattle.func_table.proofs.PrintedWords.{printed_entry, printed_entries, row_form, forms, words_on, IsWritten, IsPrintable, reads_table}
+use Rattle.func_table.proofs.PrintedWords.{printed_entry, printed_entries, row_form, forms, words_on, IsWritten, IsPrintable, writes_table}
 use Rattle.func_table.proofs.PrintedLines.{cut, lines_words, cut_forms, AllKeep, all_stand}
 
 -- ---- rows
@@ -142,11 +141,11 @@ module _ (decimals : DecimalsAreNumbers) (t : Table) (h : IsTable t) where
   all_keep : AllKeep nothing_yet (forms t) (place stage.Rows t)
   all_keep = (tt, refl, refl, (some_names t.inputs h.some_input, refl, inputs_kept, (tt, refl, output_kept, rows_keep decimals t [] t.rows h.some_input h.rows h.few_rows refl)))
 
-  pub printed : FrontIsLongest → SpellsTable (table_text t) t
-  printed longest =
+  pub printed : WrittenHasWords → SpellsTable (table_text t) t
+  printed have_words =
       let text = table_text t in
-      let reads = reads_table t (names_are t.inputs ports.0) (port_name_is t.output output_port) (printables decimals (length t.inputs) t.rows h.rows) in
-      let w = has_words longest text (words_on (forms t)) reads in
+      let writes = writes_table t (names_are t.inputs ports.0) (port_name_is t.output output_port) (printables decimals (length t.inputs) t.rows h.rows) in
+      let w = have_words text (words_on (forms t)) writes in
       let same = lines_words text w.tokens ∙ ap cut w.words ∙ cut_forms (forms t) in
       record {
         tokens = w.tokens;

@@ -11,7 +11,7 @@ use Rattle.net_lang.specs.Grammar.{name, number, sign}
 use Rattle.func_table.specs.Table.{Row, Table}
 use Rattle.func_table.specs.Forms.{Form, Header, Inputs, Output, Entries, spelled_entry, spelled_form}
 use Rattle.func_table.specs.Text.{spaced_names, entry_text, entries_text, row_text, rows_text, table_text}
-use Rattle.func_table.proofs.PrintedPieces.{Reads, reads_nothing, stops, reads_name, reads_number, newline, reads_dash, reads_arrow, reads_space, reads_newline}
+use Rattle.rl_text.specs.Writing.{newline, stops, Writes, Nothing, NameThen, NumberThen, DashThen, ArrowThen, SpaceThen, NewlineThen}
 
 -- an entry as it is printed
 abbrev pub printed_entry : Option ℕ → Option (List ℕ)
@@ -48,18 +48,18 @@ pub record IsPrintable (r : Row) : Type 0 where
   pub entries : AllByRecursion IsWritten r.entries
   pub out : IsConstant r.out (decimal r.out)
 
-reads_entry : (e : Option ℕ) (rest : List ℕ) (ws : List Word) → IsWritten e → Reads rest ws → Reads (entry_text e ++ (32 ∷ rest)) (spelled_entry (printed_entry e) ∷ ws)
-reads_entry (Some e) rest ws h r = reads_number (decimal e) (32 ∷ rest) ws h.number refl (reads_space rest ws r)
-reads_entry None rest ws h r = reads_dash rest ws (reads_space rest ws r)
+writes_entry : (e : Option ℕ) (rest : List ℕ) (ws : List Word) → IsWritten e → Writes rest ws → Writes (entry_text e ++ (32 ∷ rest)) (spelled_entry (printed_entry e) ∷ ws)
+writes_entry (Some e) rest ws h r = NumberThen (decimal e) h.number refl (SpaceThen r)
+writes_entry None rest ws h r = DashThen refl (SpaceThen r)
 
 entry_bytes : (e es rest : List ℕ) → ((e ++ codes " ") ++ es) ++ rest ≡ e ++ (32 ∷ (es ++ rest))
 entry_bytes e es rest = simp append_assoc
 
-reads_entries : (es : List (Option ℕ)) (rest : List ℕ) (ws : List Word) → AllByRecursion IsWritten es → Reads rest ws → Reads (entries_text es ++ rest) (map spelled_entry (printed_entries es) ++ ws)
-reads_entries [] rest ws h r = r
-reads_entries (e ∷ es) rest ws h r =
-    subst (λ (t : List ℕ). Reads t (map spelled_entry (printed_entries (e ∷ es)) ++ ws)) (sym (entry_bytes (entry_text e) (entries_text es) rest))
-    (reads_entry e (entries_text es ++ rest) (map spelled_entry (printed_entries es) ++ ws) h.0 (reads_entries es rest ws h.1 r))
+writes_entries : (es : List (Option ℕ)) (rest : List ℕ) (ws : List Word) → AllByRecursion IsWritten es → Writes rest ws → Writes (entries_text es ++ rest) (map spelled_entry (printed_entries es) ++ ws)
+writes_entries [] rest ws h r = r
+writes_entries (e ∷ es) rest ws h r =
+    subst (λ (t : List ℕ). Writes t (map spelled_entry (printed_entries (e ∷ es)) ++ ws)) (sym (entry_bytes (entry_text e) (entries_text es) rest))
+    (writes_entry e (entries_text es ++ rest) (map spelled_entry (printed_entries es) ++ ws) h.0 (writes_entries es rest ws h.1 r))
 
 row_bytes : (es out rest : List ℕ) → (((es ++ codes "-> ") ++ out) ++ codes "\n") ++ rest ≡ es ++ (45 ∷ 62 ∷ 32 ∷ (out ++ (10 ∷ rest)))
 row_bytes es out rest = simp append_assoc
@@ -67,20 +67,20 @@ row_bytes es out rest = simp append_assoc
 row_words : (es ws : List Word) (a y : Word) → ((es ++ a ∷ y ∷ []) ++ newline ∷ []) ++ ws ≡ es ++ (a ∷ y ∷ newline ∷ ws)
 row_words es ws a y = simp append_assoc
 
-reads_row : (x : Row) (rest : List ℕ) (ws : List Word) → IsPrintable x → Reads rest ws → Reads (row_text x ++ rest) ((spelled_form (row_form x) ++ newline ∷ []) ++ ws)
-reads_row x rest ws h r =
-    let out = reads_number (decimal x.out) (10 ∷ rest) (newline ∷ ws) h.out.number refl (reads_newline rest ws r) in
-    let arrow = reads_arrow (32 ∷ (decimal x.out ++ (10 ∷ rest))) (number (decimal x.out) ∷ newline ∷ ws) (reads_space (decimal x.out ++ (10 ∷ rest)) (number (decimal x.out) ∷ newline ∷ ws) out) in
-    let all = reads_entries x.entries (45 ∷ 62 ∷ 32 ∷ (decimal x.out ++ (10 ∷ rest))) (sign (codes "->") ∷ number (decimal x.out) ∷ newline ∷ ws) h.entries arrow in
-    subst (λ (t : List ℕ). Reads t ((spelled_form (row_form x) ++ newline ∷ []) ++ ws)) (sym (row_bytes (entries_text x.entries) (decimal x.out) rest))
-    (subst (λ (vs : List Word). Reads (entries_text x.entries ++ (45 ∷ 62 ∷ 32 ∷ (decimal x.out ++ (10 ∷ rest)))) vs) (sym (row_words (map spelled_entry (printed_entries x.entries)) ws (sign (codes "->")) (number (decimal x.out)))) all)
+writes_row : (x : Row) (rest : List ℕ) (ws : List Word) → IsPrintable x → Writes rest ws → Writes (row_text x ++ rest) ((spelled_form (row_form x) ++ newline ∷ []) ++ ws)
+writes_row x rest ws h r =
+    let out = NumberThen (decimal x.out) h.out.number refl (NewlineThen r) in
+    let arrow = ArrowThen (SpaceThen out) in
+    let all = writes_entries x.entries (45 ∷ 62 ∷ 32 ∷ (decimal x.out ++ (10 ∷ rest))) (sign (codes "->") ∷ number (decimal x.out) ∷ newline ∷ ws) h.entries arrow in
+    subst (λ (t : List ℕ). Writes t ((spelled_form (row_form x) ++ newline ∷ []) ++ ws)) (sym (row_bytes (entries_text x.entries) (decimal x.out) rest))
+    (subst (λ (vs : List Word). Writes (entries_text x.entries ++ (45 ∷ 62 ∷ 32 ∷ (decimal x.out ++ (10 ∷ rest)))) vs) (sym (row_words (map spelled_entry (printed_entries x.entries)) ws (sign (codes "->")) (number (decimal x.out)))) all)
 
-reads_rows : (xs : List Row) (rest : List ℕ) (ws : List Word) → AllByRecursion IsPrintable xs → Reads rest ws → Reads (rows_text xs ++ rest) (words_on (map row_form xs) ++ ws)
-reads_rows [] rest ws h r = r
-reads_rows (x ∷ xs) rest ws h r =
-    let more = reads_row x (rows_text xs ++ rest) (words_on (map row_form xs) ++ ws) h.0 (reads_rows xs rest ws h.1 r) in
-    subst (λ (t : List ℕ). Reads t (words_on (map row_form (x ∷ xs)) ++ ws)) (sym (append_assoc (row_text x) (rows_text xs) rest))
-    (subst (Reads (row_text x ++ (rows_text xs ++ rest))) (sym (append_assoc (spelled_form (row_form x) ++ newline ∷ []) (words_on (map row_form xs)) ws)) more)
+writes_rows : (xs : List Row) (rest : List ℕ) (ws : List Word) → AllByRecursion IsPrintable xs → Writes rest ws → Writes (rows_text xs ++ rest) (words_on (map row_form xs) ++ ws)
+writes_rows [] rest ws h r = r
+writes_rows (x ∷ xs) rest ws h r =
+    let more = writes_row x (rows_text xs ++ rest) (words_on (map row_form xs) ++ ws) h.0 (writes_rows xs rest ws h.1 r) in
+    subst (λ (t : List ℕ). Writes t (words_on (map row_form (x ∷ xs)) ++ ws)) (sym (append_assoc (row_text x) (rows_text xs) rest))
+    (subst (Writes (row_text x ++ (rows_text xs ++ rest))) (sym (append_assoc (spelled_form (row_form x) ++ newline ∷ []) (words_on (map row_form xs)) ws)) more)
 
 -- ---- the first three lines
 
@@ -88,29 +88,29 @@ names_stop : (names : List (List ℕ)) (rest : List ℕ) → stops rest ≡ true
 names_stop [] rest s = s
 names_stop (t ∷ names) rest s = refl
 
-reads_names : (names : List (List ℕ)) (rest : List ℕ) (ws : List Word) → list_all is_name names ≡ true → stops rest ≡ true → Reads rest ws → Reads (spaced_names names ++ rest) (map name names ++ ws)
-reads_names [] rest ws h s r = r
-reads_names (t ∷ names) rest ws h s r =
+writes_names : (names : List (List ℕ)) (rest : List ℕ) (ws : List Word) → list_all is_name names ≡ true → stops rest ≡ true → Writes rest ws → Writes (spaced_names names ++ rest) (map name names ++ ws)
+writes_names [] rest ws h s r = r
+writes_names (t ∷ names) rest ws h s r =
     let a = and_parts (is_name t) (list_all is_name names) h in
     let behind = spaced_names names ++ rest in
-    let more = reads_name t behind (map name names ++ ws) a.0 (names_stop names rest s) (reads_names names rest ws a.1 s r) in
-    let all = reads_space (t ++ behind) (name t ∷ (map name names ++ ws)) more in
-    subst (λ (x : List ℕ). Reads x (name t ∷ (map name names ++ ws))) (sym (append_assoc (32 ∷ t) (spaced_names names) rest)) all
+    let more = NameThen t a.0 (names_stop names rest s) (writes_names names rest ws a.1 s r) in
+    let all = SpaceThen more in
+    subst (λ (x : List ℕ). Writes x (name t ∷ (map name names ++ ws))) (sym (append_assoc (32 ∷ t) (spaced_names names) rest)) all
 
-reads_output : (n rest : List ℕ) (ws : List Word) → is_name n ≡ true → Reads rest ws → Reads (codes "output" ++ (32 ∷ (n ++ (10 ∷ rest)))) (name (codes "output") ∷ name n ∷ newline ∷ ws)
-reads_output n rest ws h r =
-    let named = reads_name n (10 ∷ rest) (newline ∷ ws) h refl (reads_newline rest ws r) in
-    reads_name (codes "output") (32 ∷ (n ++ (10 ∷ rest))) (name n ∷ newline ∷ ws) refl refl (reads_space (n ++ (10 ∷ rest)) (name n ∷ newline ∷ ws) named)
+writes_output : (n rest : List ℕ) (ws : List Word) → is_name n ≡ true → Writes rest ws → Writes (codes "output" ++ (32 ∷ (n ++ (10 ∷ rest)))) (name (codes "output") ∷ name n ∷ newline ∷ ws)
+writes_output n rest ws h r =
+    let named = NameThen n h refl (NewlineThen r) in
+    NameThen (codes "output") refl refl (SpaceThen named)
 
-reads_head : (names : List (List ℕ)) (rest : List ℕ) (ws : List Word) → list_all is_name names ≡ true → Reads rest ws
-    → Reads (codes "racetable 1\ninputs" ++ (spaced_names names ++ (10 ∷ rest))) (name (codes "racetable") ∷ number (codes "1") ∷ newline ∷ name (codes "inputs") ∷ (map name names ++ (newline ∷ ws)))
-reads_head names rest ws h r =
+writes_head : (names : List (List ℕ)) (rest : List ℕ) (ws : List Word) → list_all is_name names ≡ true → Writes rest ws
+    → Writes (codes "racetable 1\ninputs" ++ (spaced_names names ++ (10 ∷ rest))) (name (codes "racetable") ∷ number (codes "1") ∷ newline ∷ name (codes "inputs") ∷ (map name names ++ (newline ∷ ws)))
+writes_head names rest ws h r =
     let line = spaced_names names ++ (10 ∷ rest) in
     let vs = map name names ++ (newline ∷ ws) in
-    let inputs = reads_name (codes "inputs") line vs refl (names_stop names (10 ∷ rest) refl) (reads_names names (10 ∷ rest) (newline ∷ ws) h refl (reads_newline rest ws r)) in
-    let one = reads_number (codes "1") (10 ∷ (codes "inputs" ++ line)) (newline ∷ name (codes "inputs") ∷ vs) refl refl (reads_newline (codes "inputs" ++ line) (name (codes "inputs") ∷ vs) inputs) in
-    reads_name (codes "racetable") (32 ∷ (codes "1" ++ (10 ∷ (codes "inputs" ++ line)))) (number (codes "1") ∷ newline ∷ name (codes "inputs") ∷ vs) refl refl
-    (reads_space (codes "1" ++ (10 ∷ (codes "inputs" ++ line))) (number (codes "1") ∷ newline ∷ name (codes "inputs") ∷ vs) one)
+    let inputs = NameThen (codes "inputs") refl (names_stop names (10 ∷ rest) refl) (writes_names names (10 ∷ rest) (newline ∷ ws) h refl (NewlineThen r)) in
+    let one = NumberThen (codes "1") refl refl (NewlineThen inputs) in
+    NameThen (codes "racetable") refl refl
+    (SpaceThen one)
 
 -- ---- the whole text
 
@@ -133,13 +133,13 @@ table_words names rows o =
     (ap (λ (x : List Word). name (codes "inputs") ∷ (names ++ (newline ∷ name (codes "output") ∷ o ∷ newline ∷ x))) (append-nil rows)
     ∙ sym (append_assoc (name (codes "inputs") ∷ names) (newline ∷ []) (name (codes "output") ∷ o ∷ newline ∷ rows)))
 
-pub reads_table : (t : Table) → list_all is_name t.inputs ≡ true → is_name t.output ≡ true → AllByRecursion IsPrintable t.rows → Reads (table_text t) (words_on (forms t))
+pub writes_table : (t : Table) → list_all is_name t.inputs ≡ true → is_name t.output ≡ true → AllByRecursion IsPrintable t.rows → Writes (table_text t) (words_on (forms t))
 unfolding table_text
-reads_table t ins out rows =
+writes_table t ins out rows =
     let text = rows_text t.rows in
     let words = words_on (map row_form t.rows) in
-    let last = reads_rows t.rows [] [] rows reads_nothing in
-    let behind = reads_output t.output (text ++ []) (words ++ []) out last in
-    let all = reads_head t.inputs (codes "output" ++ (32 ∷ (t.output ++ (10 ∷ (text ++ []))))) (name (codes "output") ∷ name t.output ∷ newline ∷ (words ++ [])) ins behind in
-    subst (λ (x : List ℕ). Reads x (words_on (forms t))) (sym (table_bytes (spaced_names t.inputs) t.output text))
-    (subst (Reads (codes "racetable 1\ninputs" ++ (spaced_names t.inputs ++ (10 ∷ (codes "output" ++ (32 ∷ (t.output ++ (10 ∷ (text ++ []))))))))) (table_words (map name t.inputs) words (name t.output)) all)
+    let last = writes_rows t.rows [] [] rows Nothing in
+    let behind = writes_output t.output (text ++ []) (words ++ []) out last in
+    let all = writes_head t.inputs (codes "output" ++ (32 ∷ (t.output ++ (10 ∷ (text ++ []))))) (name (codes "output") ∷ name t.output ∷ newline ∷ (words ++ [])) ins behind in
+    subst (λ (x : List ℕ). Writes x (words_on (forms t))) (sym (table_bytes (spaced_names t.inputs) t.output text))
+    (subst (Writes (codes "racetable 1\ninputs" ++ (spaced_names t.inputs ++ (10 ∷ (codes "output" ++ (32 ∷ (t.output ++ (10 ∷ (text ++ []))))))))) (table_words (map name t.inputs) words (name t.output)) all)

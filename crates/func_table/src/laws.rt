@@ -13,7 +13,8 @@ ghost use Rattle.func_table.specs.Outcome.{IsCause};
 ghost use Rattle.func_table.specs.Text.{table_text};
 
 use rl_text::{
-    decimals_are_numbers, front_is_longest, one_bad_place, one_list_of_tokens, tokens_or_bad_place,
+    decimals_are_numbers, one_bad_place, one_list_of_tokens, tokens_or_bad_place,
+    written_texts_have_words,
 };
 
 /// Where rows are sound and one of them matches, the value is that row's output after the least of the times, in
@@ -57,6 +58,6 @@ pub fn one_cause()
 pub fn printing_spells()
     ensures { (t : Table) → IsTable t → SpellsTable (table_text t) t }
 {
-    front_is_longest();
+    written_texts_have_words();
     decimals_are_numbers();
 }

@@ -6,7 +6,6 @@ pub mod Numbers
 pub mod Knowing
 pub mod Drafts
 pub mod Sound
-pub mod PrintedPieces
 pub mod PrintedWords
 pub mod PrintedLines
 pub mod PrintedNames

@@ -10,7 +10,7 @@ use Rattle.net_lang.specs.Grammar.{Expression, Never, Name, Min, Max, Lt, Inc, n
 use Rattle.net_lang.specs.Forms.{Form, Header, Inputs, Let, Output, spelled_form, IsFormed}
 use Rattle.net_lang.specs.LineRules.{SoFar, allows, after, first_rule}
 use Rattle.net_lang.specs.Spelling.{AllStand}
-use Rattle.net_lang.proofs.PrintedPieces.{newline, end_word}
+use Rattle.rl_text.specs.Writing.{newline, end_word}
 use Rattle.net_lang.proofs.PrintedWords.{words_on, line_words}
 
 abbrev some_line : List Word → List (List Word)

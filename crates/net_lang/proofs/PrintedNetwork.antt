@@ -6,7 +6,7 @@ use Rattle.std.proofs.lemmas.Bool.{and_parts, and_from}
 use Rattle.std.proofs.lemmas.List.{append-nil}
 use Rattle.rl_text.specs.Names.{is_name}
 use Rattle.rl_text.specs.Lines.{lines}
-use Rattle.rl_text.specs.Laws.{FrontIsLongest, DecimalsAreNumbers}
+use Rattle.rl_text.specs.Laws.{WrittenHasWords, DecimalsAreNumbers}
 use Rattle.net_lang.specs.declared.reader.rules.Stage.{Stage}
 use Rattle.net_lang.specs.declared.reader.rules.Stage.TheVariants as stage
 use Rattle.net_lang.specs.Formula.{Equation, Net, net}
@@ -15,8 +15,7 @@ use Rattle.net_lang.specs.Forms.{Header, Inputs}
 use Rattle.net_lang.specs.LineRules.{SoFar, nothing_yet, allows, first_rule, some_twice}
 use Rattle.net_lang.specs.Spelling.{SpellsNetwork}
 use Rattle.net_lang.specs.Text.{network_text}
-use Rattle.net_lang.proofs.PrintedPieces.{has_words}
-use Rattle.net_lang.proofs.PrintedWords.{let_form, output_form, forms, words_on, let_name_is, reads_network}
+use Rattle.net_lang.proofs.PrintedWords.{let_form, output_form, forms, words_on, let_name_is, writes_network}
 use Rattle.net_lang.proofs.PrintedLines.{cut, lines_words, cut_forms, AllKeep, all_stand}
 use Rattle.net_lang.proofs.PrintedNames.{distinct_front, apart}
 use Rattle.net_lang.proofs.PrintedRules.{kept, few, is_formed, let_extends, output_extends, let_kept, output_kept, next_let, next_output, few_lets, few_outputs, let_name_here, output_name_here, lets_have_names, outputs_have_names, ports_are_lets}
@@ -139,11 +138,11 @@ names_are : (xs : List (List ℕ)) → list_all is_let_name xs ≡ true → list
 names_are [] h = refl
 names_are (x ∷ xs) h = let a = and_parts (is_let_name x) (list_all is_let_name xs) h in and_from (is_name x) (list_all is_name xs) (let_name_is x a.0) (names_are xs a.1)
 
-pub printed : FrontIsLongest → DecimalsAreNumbers → (n : Net) → IsNetwork n → SpellsNetwork (network_text n) n
-printed longest decimals n h =
+pub printed : WrittenHasWords → DecimalsAreNumbers → (n : Net) → IsNetwork n → SpellsNetwork (network_text n) n
+printed have_words decimals n h =
     let text = network_text n in
-    let reads = reads_network n (names_are n.inputs (ports_are_lets n.inputs h.input_names)) (lets_have_names decimals n h) (outputs_have_names decimals n h) in
-    let w = has_words longest text (words_on (forms n)) reads in
+    let writes = writes_network n (names_are n.inputs (ports_are_lets n.inputs h.input_names)) (lets_have_names decimals n h) (outputs_have_names decimals n h) in
+    let w = have_words text (words_on (forms n)) writes in
     let same = lines_words text w.tokens ∙ ap cut w.words ∙ cut_forms (forms n) in
     record {
       tokens = w.tokens;

@@ -13,7 +13,7 @@ use Rattle.net_lang.specs.Rules.{is_reserved, is_let_name, names_of}
 use Rattle.net_lang.specs.Grammar.{Expression, Never, Name, Min, Max, Lt, Inc, name, number, sign, open_, comma, close, spelled, IsWritten}
 use Rattle.net_lang.specs.Forms.{Form, Header, Inputs, Let, Output, spelled_form}
 use Rattle.net_lang.specs.Text.{call_text, formula_text, equation_text, equations_text, spaced_names, network_text}
-use Rattle.net_lang.proofs.PrintedPieces.{Reads, reads_nothing, stops, reads_name, reads_number, newline, reads_open, reads_close, reads_comma, reads_equals, reads_space, reads_newline}
+use Rattle.rl_text.specs.Writing.{newline, stops, Writes, Nothing, NameThen, NumberThen, SignThen, SpaceThen, NewlineThen}
 
 -- a formula as it is printed, by the names of the inputs and of the lets
 abbrev pub written : List (List ℕ) → List (List ℕ) → Formula → Expression
@@ -52,9 +52,9 @@ is_written inputs lets (f.Inc a c) h = (is_written inputs lets a h.0, h.1.plain)
 
 -- ---- formulas
 
--- in front of a text that doesn't go on with it, the text reads as these words in front of the other's
-abbrev ReadsOn : List ℕ → List Word → Type 0
-ReadsOn text vs = (rest : List ℕ) (ws : List Word) → stops rest ≡ true → Reads rest ws → Reads (text ++ rest) (vs ++ ws)
+-- in front of a text that doesn't go on with it, the text is written with these words in front of the other's
+abbrev WritesOn : List ℕ → List Word → Type 0
+WritesOn text vs = (rest : List ℕ) (ws : List Word) → stops rest ≡ true → Writes rest ws → Writes (text ++ rest) (vs ++ ws)
 
 call_bytes : (w a b rest : List ℕ) → call_text (w ++ codes "(") a b ++ rest ≡ w ++ (40 ∷ (a ++ (44 ∷ 32 ∷ (b ++ (41 ∷ rest)))))
 call_bytes w a b rest = simp append_assoc
@@ -62,33 +62,33 @@ call_bytes w a b rest = simp append_assoc
 call_words : (w : Word) (a b ws : List Word) → ((w ∷ open_ ∷ a ++ comma ∷ b) ++ close ∷ []) ++ ws ≡ w ∷ open_ ∷ (a ++ (comma ∷ (b ++ (close ∷ ws))))
 call_words w a b ws = simp append_assoc
 
-reads_call : (w ta tb : List ℕ) (a b : List Word) → is_name w ≡ true → ReadsOn ta a → ReadsOn tb b → ReadsOn (call_text (w ++ codes "(") ta tb) ((name w ∷ open_ ∷ a ++ comma ∷ b) ++ close ∷ [])
-reads_call w ta tb a b h first second rest ws s r =
-    let last = reads_close rest ws r in
+writes_call : (w ta tb : List ℕ) (a b : List Word) → is_name w ≡ true → WritesOn ta a → WritesOn tb b → WritesOn (call_text (w ++ codes "(") ta tb) ((name w ∷ open_ ∷ a ++ comma ∷ b) ++ close ∷ [])
+writes_call w ta tb a b h first second rest ws s r =
+    let last = SignThen 41 refl r in
     let q = second (41 ∷ rest) (close ∷ ws) refl last in
-    let c = reads_comma (32 ∷ (tb ++ (41 ∷ rest))) (b ++ (close ∷ ws)) (reads_space (tb ++ (41 ∷ rest)) (b ++ (close ∷ ws)) q) in
+    let c = SignThen 44 refl (SpaceThen q) in
     let p = first (44 ∷ 32 ∷ (tb ++ (41 ∷ rest))) (comma ∷ (b ++ (close ∷ ws))) refl c in
-    let o = reads_open (ta ++ (44 ∷ 32 ∷ (tb ++ (41 ∷ rest)))) (a ++ (comma ∷ (b ++ (close ∷ ws)))) p in
-    let all = reads_name w (40 ∷ (ta ++ (44 ∷ 32 ∷ (tb ++ (41 ∷ rest))))) (open_ ∷ (a ++ (comma ∷ (b ++ (close ∷ ws))))) h refl o in
-    subst (λ (x : List ℕ). Reads x (((name w ∷ open_ ∷ a ++ comma ∷ b) ++ close ∷ []) ++ ws)) (sym (call_bytes w ta tb rest))
-    (subst (λ (x : List Word). Reads (w ++ (40 ∷ (ta ++ (44 ∷ 32 ∷ (tb ++ (41 ∷ rest)))))) x) (sym (call_words (name w) a b ws)) all)
+    let o = SignThen 40 refl p in
+    let all = NameThen w h refl o in
+    subst (λ (x : List ℕ). Writes x (((name w ∷ open_ ∷ a ++ comma ∷ b) ++ close ∷ []) ++ ws)) (sym (call_bytes w ta tb rest))
+    (subst (λ (x : List Word). Writes (w ++ (40 ∷ (ta ++ (44 ∷ 32 ∷ (tb ++ (41 ∷ rest)))))) x) (sym (call_words (name w) a b ws)) all)
 
 inc_words : (w n : Word) (a ws : List Word) → ((w ∷ open_ ∷ a ++ comma ∷ (n ∷ [])) ++ close ∷ []) ++ ws ≡ (w ∷ open_ ∷ a ++ comma ∷ n ∷ close ∷ []) ++ ws
 inc_words w n a ws = simp append_assoc
 
-reads_delay : (w ta tb : List ℕ) (a : List Word) → is_name w ≡ true → ReadsOn ta a → ReadsOn tb (number tb ∷ []) → ReadsOn (call_text (w ++ codes "(") ta tb) (name w ∷ open_ ∷ a ++ comma ∷ number tb ∷ close ∷ [])
-reads_delay w ta tb a h first second rest ws s r =
-    subst (λ (x : List Word). Reads (call_text (w ++ codes "(") ta tb ++ rest) x) (inc_words (name w) (number tb) a ws) (reads_call w ta tb a (number tb ∷ []) h first second rest ws s r)
+writes_delay : (w ta tb : List ℕ) (a : List Word) → is_name w ≡ true → WritesOn ta a → WritesOn tb (number tb ∷ []) → WritesOn (call_text (w ++ codes "(") ta tb) (name w ∷ open_ ∷ a ++ comma ∷ number tb ∷ close ∷ [])
+writes_delay w ta tb a h first second rest ws s r =
+    subst (λ (x : List Word). Writes (call_text (w ++ codes "(") ta tb ++ rest) x) (inc_words (name w) (number tb) a ws) (writes_call w ta tb a (number tb ∷ []) h first second rest ws s r)
 
-pub reads_formula : (inputs lets : List (List ℕ)) (t : Formula) → IsPrintable inputs lets t → ReadsOn (formula_text inputs lets t) (spelled (written inputs lets t))
-reads_formula inputs lets f.Never h = λ rest ws s r. reads_name (codes "never") rest ws refl s r
-reads_formula inputs lets (f.Input i) h = λ rest ws s r. reads_name (slice_index_or inputs i []) rest ws (let_name_is (slice_index_or inputs i []) h) s r
-reads_formula inputs lets (f.Named j) h = λ rest ws s r. reads_name (slice_index_or lets j []) rest ws (let_name_is (slice_index_or lets j []) h) s r
-reads_formula inputs lets (f.Min a b) h = reads_call (codes "min") (formula_text inputs lets a) (formula_text inputs lets b) (spelled (written inputs lets a)) (spelled (written inputs lets b)) refl (reads_formula inputs lets a h.0) (reads_formula inputs lets b h.1)
-reads_formula inputs lets (f.Max a b) h = reads_call (codes "max") (formula_text inputs lets a) (formula_text inputs lets b) (spelled (written inputs lets a)) (spelled (written inputs lets b)) refl (reads_formula inputs lets a h.0) (reads_formula inputs lets b h.1)
-reads_formula inputs lets (f.Lt a b) h = reads_call (codes "lt") (formula_text inputs lets a) (formula_text inputs lets b) (spelled (written inputs lets a)) (spelled (written inputs lets b)) refl (reads_formula inputs lets a h.0) (reads_formula inputs lets b h.1)
-reads_formula inputs lets (f.Inc a c) h =
-    reads_delay (codes "inc") (formula_text inputs lets a) (decimal c) (spelled (written inputs lets a)) refl (reads_formula inputs lets a h.0) (λ rest ws s r. reads_number (decimal c) rest ws h.1.number s r)
+pub writes_formula : (inputs lets : List (List ℕ)) (t : Formula) → IsPrintable inputs lets t → WritesOn (formula_text inputs lets t) (spelled (written inputs lets t))
+writes_formula inputs lets f.Never h = λ rest ws s r. NameThen (codes "never") refl s r
+writes_formula inputs lets (f.Input i) h = λ rest ws s r. NameThen (slice_index_or inputs i []) (let_name_is (slice_index_or inputs i []) h) s r
+writes_formula inputs lets (f.Named j) h = λ rest ws s r. NameThen (slice_index_or lets j []) (let_name_is (slice_index_or lets j []) h) s r
+writes_formula inputs lets (f.Min a b) h = writes_call (codes "min") (formula_text inputs lets a) (formula_text inputs lets b) (spelled (written inputs lets a)) (spelled (written inputs lets b)) refl (writes_formula inputs lets a h.0) (writes_formula inputs lets b h.1)
+writes_formula inputs lets (f.Max a b) h = writes_call (codes "max") (formula_text inputs lets a) (formula_text inputs lets b) (spelled (written inputs lets a)) (spelled (written inputs lets b)) refl (writes_formula inputs lets a h.0) (writes_formula inputs lets b h.1)
+writes_formula inputs lets (f.Lt a b) h = writes_call (codes "lt") (formula_text inputs lets a) (formula_text inputs lets b) (spelled (written inputs lets a)) (spelled (written inputs lets b)) refl (writes_formula inputs lets a h.0) (writes_formula inputs lets b h.1)
+writes_formula inputs lets (f.Inc a c) h =
+    writes_delay (codes "inc") (formula_text inputs lets a) (decimal c) (spelled (written inputs lets a)) refl (writes_formula inputs lets a h.0) (λ rest ws s r. NumberThen (decimal c) h.1.number s r)
 
 -- ---- lines
 
@@ -113,62 +113,62 @@ HasNames inputs lets e = (is_name e.name ≡ true) × IsPrintable inputs lets e.
 equation_bytes : (w t x rest : List ℕ) → ((((w ++ codes " ") ++ t) ++ codes " = ") ++ x ++ codes "\n") ++ rest ≡ w ++ (32 ∷ (t ++ (32 ∷ 61 ∷ 32 ∷ (x ++ (10 ∷ rest)))))
 equation_bytes w t x rest = simp append_assoc
 
-reads_equation : (w : List ℕ) (inputs lets : List (List ℕ)) (e : Equation) (rest : List ℕ) (ws : List Word) → is_name w ≡ true → HasNames inputs lets e → Reads rest ws
-    → Reads (equation_text (w ++ codes " ") inputs lets e ++ rest) (name w ∷ name e.name ∷ sign (codes "=") ∷ (spelled (written inputs lets e.body) ++ (newline ∷ ws)))
-reads_equation w inputs lets e rest ws h p r =
+writes_equation : (w : List ℕ) (inputs lets : List (List ℕ)) (e : Equation) (rest : List ℕ) (ws : List Word) → is_name w ≡ true → HasNames inputs lets e → Writes rest ws
+    → Writes (equation_text (w ++ codes " ") inputs lets e ++ rest) (name w ∷ name e.name ∷ sign (codes "=") ∷ (spelled (written inputs lets e.body) ++ (newline ∷ ws)))
+writes_equation w inputs lets e rest ws h p r =
     let x = formula_text inputs lets e.body in
     let vs = spelled (written inputs lets e.body) ++ (newline ∷ ws) in
-    let body = reads_formula inputs lets e.body p.1 (10 ∷ rest) (newline ∷ ws) refl (reads_newline rest ws r) in
-    let sign_ = reads_equals (32 ∷ (x ++ (10 ∷ rest))) vs (reads_space (x ++ (10 ∷ rest)) vs body) in
-    let named = reads_name e.name (32 ∷ 61 ∷ 32 ∷ (x ++ (10 ∷ rest))) (sign (codes "=") ∷ vs) p.0 refl (reads_space (61 ∷ 32 ∷ (x ++ (10 ∷ rest))) (sign (codes "=") ∷ vs) sign_) in
-    let all = reads_name w (32 ∷ (e.name ++ (32 ∷ 61 ∷ 32 ∷ (x ++ (10 ∷ rest))))) (name e.name ∷ sign (codes "=") ∷ vs) h refl (reads_space (e.name ++ (32 ∷ 61 ∷ 32 ∷ (x ++ (10 ∷ rest)))) (name e.name ∷ sign (codes "=") ∷ vs) named) in
-    subst (λ (t : List ℕ). Reads t (name w ∷ name e.name ∷ sign (codes "=") ∷ vs)) (sym (equation_bytes w e.name x rest)) all
+    let body = writes_formula inputs lets e.body p.1 (10 ∷ rest) (newline ∷ ws) refl (NewlineThen r) in
+    let sign_ = SignThen 61 refl (SpaceThen body) in
+    let named = NameThen e.name p.0 refl (SpaceThen sign_) in
+    let all = NameThen w h refl (SpaceThen named) in
+    subst (λ (t : List ℕ). Writes t (name w ∷ name e.name ∷ sign (codes "=") ∷ vs)) (sym (equation_bytes w e.name x rest)) all
 
 -- lines in front of others
 pub line_words : (a b : List Word) (x : Word) (ws : List Word) → ((a ++ x ∷ []) ++ b) ++ ws ≡ a ++ (x ∷ (b ++ ws))
 line_words a b x ws = simp append_assoc
 
-reads_lets : (inputs lets : List (List ℕ)) (es : List Equation) (rest : List ℕ) (ws : List Word) → AllByRecursion (HasNames inputs lets) es → Reads rest ws
-    → Reads (equations_text (codes "let ") inputs lets es ++ rest) (words_on (map (let_form inputs lets) es) ++ ws)
-reads_lets inputs lets [] rest ws h r = r
-reads_lets inputs lets (e ∷ es) rest ws h r =
-    let more = reads_equation (codes "let") inputs lets e (equations_text (codes "let ") inputs lets es ++ rest) (words_on (map (let_form inputs lets) es) ++ ws) refl h.0 (reads_lets inputs lets es rest ws h.1 r) in
-    subst (λ (t : List ℕ). Reads t (words_on (map (let_form inputs lets) (e ∷ es)) ++ ws)) (sym (append_assoc (equation_text (codes "let ") inputs lets e) (equations_text (codes "let ") inputs lets es) rest))
-    (subst (λ (x : List Word). Reads (equation_text (codes "let ") inputs lets e ++ (equations_text (codes "let ") inputs lets es ++ rest)) x)
+writes_lets : (inputs lets : List (List ℕ)) (es : List Equation) (rest : List ℕ) (ws : List Word) → AllByRecursion (HasNames inputs lets) es → Writes rest ws
+    → Writes (equations_text (codes "let ") inputs lets es ++ rest) (words_on (map (let_form inputs lets) es) ++ ws)
+writes_lets inputs lets [] rest ws h r = r
+writes_lets inputs lets (e ∷ es) rest ws h r =
+    let more = writes_equation (codes "let") inputs lets e (equations_text (codes "let ") inputs lets es ++ rest) (words_on (map (let_form inputs lets) es) ++ ws) refl h.0 (writes_lets inputs lets es rest ws h.1 r) in
+    subst (λ (t : List ℕ). Writes t (words_on (map (let_form inputs lets) (e ∷ es)) ++ ws)) (sym (append_assoc (equation_text (codes "let ") inputs lets e) (equations_text (codes "let ") inputs lets es) rest))
+    (subst (λ (x : List Word). Writes (equation_text (codes "let ") inputs lets e ++ (equations_text (codes "let ") inputs lets es ++ rest)) x)
     (sym (line_words (spelled_form (let_form inputs lets e)) (words_on (map (let_form inputs lets) es)) newline ws)) more)
 
-reads_outputs : (inputs lets : List (List ℕ)) (es : List Equation) (rest : List ℕ) (ws : List Word) → AllByRecursion (HasNames inputs lets) es → Reads rest ws
-    → Reads (equations_text (codes "output ") inputs lets es ++ rest) (words_on (map (output_form inputs lets) es) ++ ws)
-reads_outputs inputs lets [] rest ws h r = r
-reads_outputs inputs lets (e ∷ es) rest ws h r =
-    let more = reads_equation (codes "output") inputs lets e (equations_text (codes "output ") inputs lets es ++ rest) (words_on (map (output_form inputs lets) es) ++ ws) refl h.0 (reads_outputs inputs lets es rest ws h.1 r) in
-    subst (λ (t : List ℕ). Reads t (words_on (map (output_form inputs lets) (e ∷ es)) ++ ws)) (sym (append_assoc (equation_text (codes "output ") inputs lets e) (equations_text (codes "output ") inputs lets es) rest))
-    (subst (λ (x : List Word). Reads (equation_text (codes "output ") inputs lets e ++ (equations_text (codes "output ") inputs lets es ++ rest)) x)
+writes_outputs : (inputs lets : List (List ℕ)) (es : List Equation) (rest : List ℕ) (ws : List Word) → AllByRecursion (HasNames inputs lets) es → Writes rest ws
+    → Writes (equations_text (codes "output ") inputs lets es ++ rest) (words_on (map (output_form inputs lets) es) ++ ws)
+writes_outputs inputs lets [] rest ws h r = r
+writes_outputs inputs lets (e ∷ es) rest ws h r =
+    let more = writes_equation (codes "output") inputs lets e (equations_text (codes "output ") inputs lets es ++ rest) (words_on (map (output_form inputs lets) es) ++ ws) refl h.0 (writes_outputs inputs lets es rest ws h.1 r) in
+    subst (λ (t : List ℕ). Writes t (words_on (map (output_form inputs lets) (e ∷ es)) ++ ws)) (sym (append_assoc (equation_text (codes "output ") inputs lets e) (equations_text (codes "output ") inputs lets es) rest))
+    (subst (λ (x : List Word). Writes (equation_text (codes "output ") inputs lets e ++ (equations_text (codes "output ") inputs lets es ++ rest)) x)
     (sym (line_words (spelled_form (output_form inputs lets e)) (words_on (map (output_form inputs lets) es)) newline ws)) more)
 
 names_stop : (names : List (List ℕ)) (rest : List ℕ) → stops rest ≡ true → stops (spaced_names names ++ rest) ≡ true
 names_stop [] rest s = s
 names_stop (t ∷ names) rest s = refl
 
-reads_names : (names : List (List ℕ)) (rest : List ℕ) (ws : List Word) → list_all is_name names ≡ true → stops rest ≡ true → Reads rest ws → Reads (spaced_names names ++ rest) (map name names ++ ws)
-reads_names [] rest ws h s r = r
-reads_names (t ∷ names) rest ws h s r =
+writes_names : (names : List (List ℕ)) (rest : List ℕ) (ws : List Word) → list_all is_name names ≡ true → stops rest ≡ true → Writes rest ws → Writes (spaced_names names ++ rest) (map name names ++ ws)
+writes_names [] rest ws h s r = r
+writes_names (t ∷ names) rest ws h s r =
     let a = and_parts (is_name t) (list_all is_name names) h in
     let behind = spaced_names names ++ rest in
-    let more = reads_name t behind (map name names ++ ws) a.0 (names_stop names rest s) (reads_names names rest ws a.1 s r) in
-    let all = reads_space (t ++ behind) (name t ∷ (map name names ++ ws)) more in
-    subst (λ (x : List ℕ). Reads x (name t ∷ (map name names ++ ws))) (sym (append_assoc (32 ∷ t) (spaced_names names) rest)) all
+    let more = NameThen t a.0 (names_stop names rest s) (writes_names names rest ws a.1 s r) in
+    let all = SpaceThen more in
+    subst (λ (x : List ℕ). Writes x (name t ∷ (map name names ++ ws))) (sym (append_assoc (32 ∷ t) (spaced_names names) rest)) all
 
 -- the first two lines
-reads_head : (names : List (List ℕ)) (rest : List ℕ) (ws : List Word) → list_all is_name names ≡ true → Reads rest ws
-    → Reads (codes "racenet 1\ninput" ++ (spaced_names names ++ (10 ∷ rest))) (name (codes "racenet") ∷ number (codes "1") ∷ newline ∷ name (codes "input") ∷ (map name names ++ (newline ∷ ws)))
-reads_head names rest ws h r =
+writes_head : (names : List (List ℕ)) (rest : List ℕ) (ws : List Word) → list_all is_name names ≡ true → Writes rest ws
+    → Writes (codes "racenet 1\ninput" ++ (spaced_names names ++ (10 ∷ rest))) (name (codes "racenet") ∷ number (codes "1") ∷ newline ∷ name (codes "input") ∷ (map name names ++ (newline ∷ ws)))
+writes_head names rest ws h r =
     let line = spaced_names names ++ (10 ∷ rest) in
     let vs = map name names ++ (newline ∷ ws) in
-    let inputs = reads_name (codes "input") line vs refl (names_stop names (10 ∷ rest) refl) (reads_names names (10 ∷ rest) (newline ∷ ws) h refl (reads_newline rest ws r)) in
-    let one = reads_number (codes "1") (10 ∷ (codes "input" ++ line)) (newline ∷ name (codes "input") ∷ vs) refl refl (reads_newline (codes "input" ++ line) (name (codes "input") ∷ vs) inputs) in
-    reads_name (codes "racenet") (32 ∷ (codes "1" ++ (10 ∷ (codes "input" ++ line)))) (number (codes "1") ∷ newline ∷ name (codes "input") ∷ vs) refl refl
-    (reads_space (codes "1" ++ (10 ∷ (codes "input" ++ line))) (number (codes "1") ∷ newline ∷ name (codes "input") ∷ vs) one)
+    let inputs = NameThen (codes "input") refl (names_stop names (10 ∷ rest) refl) (writes_names names (10 ∷ rest) (newline ∷ ws) h refl (NewlineThen r)) in
+    let one = NumberThen (codes "1") refl refl (NewlineThen inputs) in
+    NameThen (codes "racenet") refl refl
+    (SpaceThen one)
 
 -- ---- the whole text
 
@@ -183,18 +183,18 @@ words_on-append : (xs ys : List Form) → words_on (xs ++ ys) ≡ words_on xs ++
 words_on-append [] ys = refl
 words_on-append (x ∷ xs) ys = ap (λ (ws : List Word). (spelled_form x ++ newline ∷ []) ++ ws) (words_on-append xs ys) ∙ sym (append_assoc (spelled_form x ++ newline ∷ []) (words_on xs) (words_on ys))
 
-pub reads_network : (n : Net) → list_all is_name n.inputs ≡ true → AllByRecursion (HasNames n.inputs (names_of n.lets)) n.lets → AllByRecursion (HasNames n.inputs (names_of n.lets)) n.outputs → Reads (network_text n) (words_on (forms n))
+pub writes_network : (n : Net) → list_all is_name n.inputs ≡ true → AllByRecursion (HasNames n.inputs (names_of n.lets)) n.lets → AllByRecursion (HasNames n.inputs (names_of n.lets)) n.outputs → Writes (network_text n) (words_on (forms n))
 unfolding network_text
-reads_network n ins lets outs =
+writes_network n ins lets outs =
     let names = names_of n.lets in
     let ls = map (let_form n.inputs names) n.lets in
     let os = map (output_form n.inputs names) n.outputs in
     let lt = equations_text (codes "let ") n.inputs names n.lets in
     let ot = equations_text (codes "output ") n.inputs names n.outputs in
-    let last = reads_outputs n.inputs names n.outputs [] [] outs reads_nothing in
-    let middle = reads_lets n.inputs names n.lets (ot ++ []) (words_on os ++ []) lets last in
-    let all = reads_head n.inputs (lt ++ (ot ++ [])) (words_on ls ++ (words_on os ++ [])) ins middle in
+    let last = writes_outputs n.inputs names n.outputs [] [] outs Nothing in
+    let middle = writes_lets n.inputs names n.lets (ot ++ []) (words_on os ++ []) lets last in
+    let all = writes_head n.inputs (lt ++ (ot ++ [])) (words_on ls ++ (words_on os ++ [])) ins middle in
     let same : name (codes "racenet") ∷ number (codes "1") ∷ newline ∷ name (codes "input") ∷ (map name n.inputs ++ (newline ∷ (words_on ls ++ (words_on os ++ [])))) ≡ words_on (forms n) =
     network_words (map name n.inputs) (words_on ls) (words_on os)
     ∙ ap (λ (ws : List Word). (spelled_form Header ++ newline ∷ []) ++ ((spelled_form (Inputs n.inputs) ++ newline ∷ []) ++ ws)) (sym (words_on-append ls os)) in
-    subst (λ (t : List ℕ). Reads t (words_on (forms n))) (sym (network_bytes (spaced_names n.inputs) lt ot)) (subst (λ (ws : List Word). Reads (codes "racenet 1\ninput" ++ (spaced_names n.inputs ++ (10 ∷ (lt ++ (ot ++ []))))) ws) same all)
+    subst (λ (t : List ℕ). Writes t (words_on (forms n))) (sym (network_bytes (spaced_names n.inputs) lt ot)) (subst (λ (ws : List Word). Writes (codes "racenet 1\ninput" ++ (spaced_names n.inputs ++ (10 ∷ (lt ++ (ot ++ []))))) ws) same all)

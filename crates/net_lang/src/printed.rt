@@ -9,13 +9,13 @@ ghost use Rattle.net_lang.specs.Outcome.{IsCause};
 ghost use Rattle.net_lang.specs.Text.{network_text};
 
 use crate::reader::{no_cause, one_network};
-use rl_text::{decimals_are_numbers, front_is_longest};
+use rl_text::{decimals_are_numbers, written_texts_have_words};
 
 /// The printing of a network spells it.
 pub fn printing_spells()
     ensures { (n : Net) → IsNetwork n → SpellsNetwork (network_text n) n }
 {
-    front_is_longest();
+    written_texts_have_words();
     decimals_are_numbers();
 }
 

@@ -7,3 +7,4 @@ pub mod Spans
 pub mod Parts
 pub mod Firsts
 pub mod Decimals
+pub mod Written

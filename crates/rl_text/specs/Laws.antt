@@ -7,6 +7,8 @@ use Rattle.rl_text.specs.Pieces.{IsLongest}
 use Rattle.rl_text.specs.Tokens.{AreTokens, IsBad}
 use Rattle.rl_text.specs.Front.{front}
 use Rattle.rl_text.specs.Numbers.{IsConstant}
+use Rattle.rl_text.specs.Lines.{Word}
+use Rattle.rl_text.specs.Writing.{Writes, HasWords}
 
 -- the piece that is computed at the front of a text is the longest that the text can begin with
 abbrev pub FrontIsLongest : Type 0
@@ -27,3 +29,7 @@ TokensOrBadPlace = (s : Style) (text : List ℕ) (ts : List Token) (p : ℕ) →
 -- the decimal digits of a number write it, with no leading zero
 abbrev pub DecimalsAreNumbers : Type 0
 DecimalsAreNumbers = (n : ℕ) → n < 2 ^ 64 → IsConstant n (decimal n)
+
+-- a text that is written with words has tokens with these words
+abbrev pub WrittenHasWords : Type 0
+WrittenHasWords = (text : List ℕ) (ws : List Word) → Writes text ws → HasWords text ws

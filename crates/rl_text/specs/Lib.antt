@@ -7,4 +7,5 @@ pub mod Lexemes
 pub mod Front
 pub mod Words
 pub mod First
+pub mod Writing
 pub mod Laws

@@ -3,7 +3,7 @@ ghost use Rattle.std.specs.Prelude.{◌≡◌, ℕ, List};
 ghost use Rattle.rl_text.specs.declared.token.Style.{Style};
 ghost use Rattle.rl_text.specs.Lines.{Word};
 ghost use Rattle.rl_text.specs.First.{BeginsWith};
-ghost use Rattle.rl_text.specs.Laws.{FrontIsLongest, OneListOfTokens, OneBadPlace, TokensOrBadPlace, DecimalsAreNumbers};
+ghost use Rattle.rl_text.specs.Laws.{FrontIsLongest, OneListOfTokens, OneBadPlace, TokensOrBadPlace, DecimalsAreNumbers, WrittenHasWords};
 
 /// The piece that is computed at the front of a text is the longest that the text can begin with.
 pub fn front_is_longest()
@@ -34,4 +34,10 @@ pub fn one_first_word()
 /// number.
 pub fn decimals_are_numbers()
     ensures { DecimalsAreNumbers }
+{}
+
+/// A text of style Race that is written with words, none of which goes on with what stands behind it, has tokens with
+/// these words.
+pub fn written_texts_have_words()
+    ensures { WrittenHasWords }
 {}

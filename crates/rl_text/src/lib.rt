@@ -19,7 +19,7 @@ pub use cut::{lexemes, line_at, lines};
 pub use first::first_word;
 pub use laws::{
     decimals_are_numbers, front_is_longest, one_bad_place, one_first_word, one_list_of_tokens,
-    tokens_or_bad_place,
+    tokens_or_bad_place, written_texts_have_words,
 };
 pub use lexer::lex;
 pub use name::{Name, is_name};
