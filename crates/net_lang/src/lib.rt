@@ -11,5 +11,7 @@ mod reader;
 pub use ast::{Binding, Expr, Network};
 pub use print::print_network;
 pub use printed::{printing_is_read, printing_spells};
-pub use reader::{NetError, Rule, no_cause, one_cause, one_network, read_network};
+pub use reader::{
+    NetError, Rule, are_port_names, is_port_name, no_cause, one_cause, one_network, read_network,
+};
 pub use rl_text::Name;

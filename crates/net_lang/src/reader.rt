@@ -18,6 +18,7 @@ mod written;
 
 pub use error::NetError;
 pub use laws::{no_cause, one_cause, one_network};
+pub use names::{are_port_names, is_port_name};
 pub use network::read_network;
 pub use rules::Rule;
 

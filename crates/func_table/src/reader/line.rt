@@ -9,11 +9,12 @@ ghost use Rattle.func_table.specs.Draft.{written_entry, form, IsDraft, Judges, I
 use super::draft::{Draft, LineError};
 use super::error::TableError;
 use super::form::Form;
-use super::names::{are_distinct, are_port_names, copied, is_input, is_port_name};
+use super::names::{are_distinct, copied, is_input};
 use super::rules::{Rule, Stage};
 use super::values::row_of;
 use super::words::form_at;
 use crate::table::Table;
+use net_lang::{are_port_names, is_port_name};
 use rl_text::{Line, Name, Word};
 use std::alloc::Global;
 

@@ -31,14 +31,14 @@ pub fn is_let_name(name: &[u8]) -> bool
     is_name(name) && name.len() <= 32 && !is_reserved(name)
 }
 
-/// Whether an input or an output may have this name.
+/// Whether an input or an output may have this name: that of a let which doesn't begin with `_`.
 pub fn is_port_name(name: &[u8]) -> bool
     ensures { result ≡ is_port_name name.now }
 {
     is_let_name(name) && !begins_with_underscore(name)
 }
 
-/// Whether an input or an output may have each of the names.
+/// Whether inputs or outputs may have each of these names.
 pub fn are_port_names(names: &[&[u8]]) -> bool
     ensures { result ≡ list_all (λ n. is_port_name n.now) names.now }
 {
