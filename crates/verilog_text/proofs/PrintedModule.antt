@@ -13,7 +13,7 @@ use Rattle.verilog_text.specs.Statements.{Start}
 use Rattle.verilog_text.specs.Judging.{SoFar, nothing_yet}
 use Rattle.verilog_text.specs.Spelling.{SpellsModule}
 use Rattle.verilog_text.specs.Printed.{printed_register, printed_ports, printed_statements, depth, IsShallow}
-use Rattle.verilog_text.proofs.PrintedPieces.{has_words}
+use Rattle.verilog_text.proofs.PrintedPieces.{FrontIsLongest, has_words}
 use Rattle.verilog_text.proofs.PrintedNames.{is_register, passes_at, printable}
 use Rattle.verilog_text.proofs.PrintedWords.{words_on, HasParts, HasNext, reads_module}
 use Rattle.verilog_text.proofs.PrintedStatements.{AllKeep, makes, all_stand}
@@ -48,8 +48,8 @@ all_keep m v =
     let inputs = inputs_keep m d [] m.inputs (map Output (map out_name m.outputs) ++ (map Wire m.wires ++ (map printed_register m.regs ++ actions m))) last refl p.inputs outputs in
     (header_keeps m v p.inputs p.outputs, (refl, (refl, inputs)))
 
-pub printed : (m : Circuit) → IsValid m → IsShallow m → SpellsModule (module_text m) m
-printed m v shallow =
+pub printed : FrontIsLongest → (m : Circuit) → IsValid m → IsShallow m → SpellsModule (module_text m) m
+printed front_is_longest m v shallow =
     let text = module_text m in
     let p = printable m v in
     let assigned = each (λ a. IsInRange m a.bit) m.assigns v.assigned_in_range in
@@ -58,7 +58,7 @@ printed m v shallow =
     let nexts = by_recursion (HasNext m) m.regs (λ k r e. (passes_at is_register m.regs k r p.regs e, next k r e)) in
     let low_assigns = by_recursion (λ (a : Assignment). IsWritable m a.bit) m.assigns (λ k a e. (assigned k a e, each (λ b. depth b.bit ≤ 64) m.assigns shallow.assigns k a e)) in
     let low_regs = by_recursion (λ (r : Register). IsWritable m r.next) m.regs (λ k r e. (next k r e, each (λ s. depth s.next ≤ 64) m.regs shallow.regs k r e)) in
-    let w = has_words text (words_on (printed_statements m)) (reads_module m p parts nexts) in
+    let w = has_words front_is_longest text (words_on (printed_statements m)) (reads_module m p parts nexts) in
     let forms = Header (codes "race") (printed_ports m) ∷ behind_header m in
     let made = makes Start forms (lexemes text w.tokens) (all_follow m p low_assigns low_regs) (w.words ∙ ap words_on (statements_split m)) in
     record {

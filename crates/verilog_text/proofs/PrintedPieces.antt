@@ -1,12 +1,13 @@
 -- Texts that fall into pieces, taken from their end on, and the words of the pieces.
 use Rattle.std.proofs.Common.{◌≡◌, ℕ, ◌+◌, ◌-◌, Bool, true, false, not, cond, ◌&&◌, List, [], ◌∷◌, ◌++◌, length, map, Option, Some, None, refl, sym, ap, subst, ◌∙◌, arith, eqb}
-use Rattle.std.specs.Prelude.{codes, slice_range}
+use Rattle.std.specs.Prelude.{codes, slice_range, take}
 use Rattle.std.specs.List.{prefix_len, list_all, filter}
 use Rattle.std.proofs.lemmas.List.{append-nil, append_assoc, take_at, drop_at, length-append}
 use Rattle.std.proofs.lemmas.Bool.{and_parts, not-true}
 use Rattle.std.proofs.lemmas.Bool.Decides.{nat_tests}
 use Rattle.rl_text.specs.declared.token.Kind.{Kind}
 use Rattle.rl_text.specs.declared.token.Kind.TheVariants as kind
+use Rattle.rl_text.specs.declared.token.Style.{Style}
 use Rattle.rl_text.specs.declared.token.Style.TheVariants as style
 use Rattle.rl_text.specs.declared.token.Token.{Token}
 use Rattle.rl_text.specs.Names.{is_digit, is_name_start, is_verilog_name_byte, is_verilog_name}
@@ -15,7 +16,6 @@ use Rattle.rl_text.specs.Tokens.{token, with_token, tokens_of, AreTokens}
 use Rattle.rl_text.specs.Lines.{Word, word_of}
 use Rattle.rl_text.specs.Lexemes.{lexeme_of, is_end, lexemes}
 use Rattle.rl_text.specs.Front.{verilog_front, front, number_front, digits_front, bit_part_len}
-use Rattle.rl_text.proofs.Fronts.{front_is_longest}
 use Rattle.verilog_text.specs.Grammar.{name, number, bits, sign, open_, close, comma, semicolon, takes}
 use Rattle.verilog_text.specs.Statements.{words_of}
 
@@ -28,27 +28,28 @@ abbrev pub words_in : List Piece → List Word
 words_in [] = []
 words_in (p ∷ ps) = with_word p.kind p.bytes (words_in ps)
 
--- the text falls into pieces, each the longest at its place, and these are their words
+-- each piece is the one that is computed at the front of what is left
+abbrev pub AreFronts : List Piece → Type 0
+AreFronts [] = Unit {0}
+AreFronts (p ∷ ps) = (front style.Verilog (p.bytes ++ joined ps) ≡ Some (p.kind, length p.bytes)) × AreFronts ps
+
+-- the text falls into such pieces, and these are their words
 pub record Reads (text : List ℕ) (ws : List Word) : Type 0 where
   pub pieces : List Piece
   pub split : text ≡ joined pieces
-  pub longest : AreLongest style.Verilog pieces []
+  pub fronts : AreFronts pieces
   pub words : ws ≡ words_in pieces
 
 pub reads_nothing : Reads [] []
-reads_nothing = record { pieces = []; split = refl; longest = tt; words = refl }
+reads_nothing = record { pieces = []; split = refl; fronts = tt; words = refl }
 
 -- a piece more at the front
 pub reads_more : (k : Option Kind) (bytes rest : List ℕ) (ws : List Word) → front style.Verilog (bytes ++ rest) ≡ Some (k, length bytes) → Reads rest ws → Reads (bytes ++ rest) (with_word k bytes ws)
 reads_more k bytes rest ws f r =
-    let p : Piece = record { kind = k; bytes = bytes } in
-    let l = front_is_longest style.Verilog k (length bytes) (bytes ++ rest) f in
-    let m : IsLongest style.Verilog p (bytes ++ rest) = subst (λ (b : List ℕ). IsLongest style.Verilog (record { kind = k; bytes = b }) (bytes ++ rest)) (take_at bytes rest (length bytes) refl) l in
-    let whole : bytes ++ rest ≡ joined (p ∷ r.pieces) ++ [] = ap (λ (b : List ℕ). bytes ++ b) r.split ∙ sym (append-nil (joined (p ∷ r.pieces))) in
     record {
-      pieces = p ∷ r.pieces;
+      pieces = record { kind = k; bytes = bytes } ∷ r.pieces;
       split = ap (λ (b : List ℕ). bytes ++ b) r.split;
-      longest = (subst (IsLongest style.Verilog p) whole m, r.longest);
+      fronts = (subst (λ (b : List ℕ). front style.Verilog (bytes ++ b) ≡ Some (k, length bytes)) r.split f, r.fronts);
       words = ap (with_word k bytes) r.words;
     }
 
@@ -235,15 +236,27 @@ words_are text before (p ∷ ps) e =
     word_more p.kind text before p.bytes (joined ps) (tokens_of (before ++ p.bytes) ps) e
     ∙ ap (with_word p.kind p.bytes) (words_are text (before ++ p.bytes) ps (e ∙ sym (append_assoc before p.bytes (joined ps))))
 
+-- what is known of the piece that is computed at the front of a text
+abbrev pub FrontIsLongest : Type 0
+FrontIsLongest = (s : Style) (k : Option Kind) (n : ℕ) (text : List ℕ) → front s text ≡ Some (k, n) → IsLongest s (record { kind = k; bytes = take n text }) text
+
+are_longest : FrontIsLongest → (ps : List Piece) → AreFronts ps → AreLongest style.Verilog ps []
+are_longest front_is_longest [] h = tt
+are_longest front_is_longest (p ∷ ps) h =
+    let text = p.bytes ++ joined ps in
+    let l = front_is_longest style.Verilog p.kind (length p.bytes) text h.0 in
+    let m : IsLongest style.Verilog p text = subst (λ (b : List ℕ). IsLongest style.Verilog (record { kind = p.kind; bytes = b }) text) (take_at p.bytes (joined ps) (length p.bytes) refl) l in
+    (subst (IsLongest style.Verilog p) (sym (append-nil (joined (p ∷ ps)))) m, are_longest front_is_longest ps h.1)
+
 -- the text has tokens, with these words
 pub record HasWords (text : List ℕ) (ws : List Word) : Type 0 where
   pub tokens : List Token
   pub lexed : AreTokens style.Verilog text tokens
   pub words : words_of (lexemes text tokens) ≡ ws
 
-pub has_words : (text : List ℕ) (ws : List Word) → Reads text ws → HasWords text ws
-has_words text ws r = record {
+pub has_words : FrontIsLongest → (text : List ℕ) (ws : List Word) → Reads text ws → HasWords text ws
+has_words front_is_longest text ws r = record {
   tokens = tokens_of [] r.pieces;
-  lexed = record { pieces = r.pieces; split = r.split; longest = r.longest; listed = refl };
+  lexed = record { pieces = r.pieces; split = r.split; longest = are_longest front_is_longest r.pieces r.fronts; listed = refl };
   words = words_are text [] r.pieces r.split ∙ sym r.words;
 }
