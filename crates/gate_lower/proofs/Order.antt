@@ -1,5 +1,5 @@
 -- The assigns of the module in the plain form are in order.
-use Rattle.std.proofs.Common.{◌≡◌, ℕ, ◌+◌, ◌-◌, ◌<◌, true, [], length, get_or, ap, ◌∙◌, sym, subst, arith, Some, inl, inr, zero-add, length-append}
+use Rattle.std.proofs.Common.{◌≡◌, ℕ, zero, suc, ◌+◌, ◌-◌, ◌<◌, true, List, [], ◌∷◌, length, refl, get_or, ap, ◌∙◌, sym, subst, arith, Some, inl, inr, zero-add, length-append}
 use Rattle.std.specs.Prelude.{slice_get, ◌⊎◌, codes}
 use Rattle.std.proofs.lemmas.List.{length-map}
 use Rattle.std.proofs.lemmas.Option.{slice_get_within, slice_get-get_or}
@@ -8,8 +8,8 @@ use Rattle.verilog_text.specs.declared.bit.Target.{Target}
 use Rattle.verilog_text.specs.declared.bit.Target.TheVariants as target
 use Rattle.verilog_text.specs.Circuit.{Logic, Circuit, Assignment, names_wire}
 use Rattle.verilog_text.specs.Circuit as b
+use Rattle.verilog_text.specs.Names.{numbered, numbered_name}
 use Rattle.verilog_text.specs.Valid.{IsTarget, IsOrdered}
-use Rattle.verilog_text.proofs.Numbered.{length-numbered}
 use Rattle.gate_lower.specs.declared.gates.Line.{Line}
 use Rattle.gate_lower.specs.declared.gates.Line.TheVariants as line
 use Rattle.gate_lower.specs.declared.gates.Gate.{Gate}
@@ -41,6 +41,10 @@ names_gate g n w r (gate.Latch x y) h e = elim (or_cases (names_wire (operand (p
   | inl p ↦ names_operand g n w x h.0 p
   | inr p ↦ names_operand g n w y h.1 p
 ]
+
+pub length-numbered : (prefix : List ℕ) (n : ℕ) → length (numbered prefix n) ≡ n
+length-numbered prefix zero = refl
+length-numbered prefix (suc n) = omega (arith, length-append (numbered prefix n) (numbered_name prefix n ∷ []), length-numbered prefix n)
 
 pub wire_inj : (i j : ℕ) → target.Wire i ≡ target.Wire j → i ≡ j
 wire_inj i j e = cc

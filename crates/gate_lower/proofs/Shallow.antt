@@ -1,9 +1,8 @@
 -- In the text of a module of gates few `~` and `(` stand one inside another.
-use Rattle.std.proofs.Common.{◌≡◌, ℕ, zero, suc, ◌+◌, ◌≤◌, false, List, [], ◌∷◌, ◌++◌, refl, arith}
+use Rattle.std.proofs.Common.{◌≡◌, ℕ, zero, suc, ◌+◌, ◌≤◌, false, List, [], ◌∷◌, refl, arith}
 use Rattle.std.specs.Prelude.{All}
-use Rattle.std.specs.List.{AllByRecursion}
 use Rattle.std.proofs.lemmas.List.Elements.{All-append, All-nil, All-cons}
-use Rattle.verilog_text.specs.Circuit.{Logic, Reg, Wire, Assignment, Register}
+use Rattle.verilog_text.specs.Circuit.{Logic, Reg, Assignment, Register}
 use Rattle.verilog_text.specs.Text.{is_compound}
 use Rattle.verilog_text.specs.Printed.{depth, IsShallow}
 use Rattle.gate_lower.specs.declared.gates.Line.{Line}

@@ -8,8 +8,8 @@ use Rattle.std.proofs.lemmas.List.Sums.{sum_by-cons}
 use Rattle.verilog_text.specs.Circuit.{Logic, Circuit, Assignment, Register, register_bits}
 use Rattle.verilog_text.specs.Circuit as b
 use Rattle.verilog_text.specs.Names.{numbered}
-use Rattle.verilog_text.specs.Valid.{HasBit, IsInRange, IsValid}
-use Rattle.verilog_text.proofs.Numbered.{length-numbered, numbered_names}
+use Rattle.verilog_text.specs.Numbering.{HasNumberedNames, HasPortNames}
+use Rattle.verilog_text.specs.Valid.{HasBit, HasValidNames, IsInRange, IsValid}
 use Rattle.gate_lower.specs.declared.gates.Line.{Line}
 use Rattle.gate_lower.specs.declared.gates.Line.TheVariants as line
 use Rattle.gate_lower.specs.declared.gates.Gate.{Gate}
@@ -21,7 +21,7 @@ use Rattle.gate_lower.specs.Rules.{latch_bits, delay_bits, held_bits, IsLine, Ha
 use Rattle.gate_lower.specs.Plain.{operand, gate_logic, first_registers, plain_tap, register_name, chain, delay_registers, latch_registers, gate_assigns, output_assigns, plain_module}
 use Rattle.gate_lower.proofs.Generic.{some_is}
 use Rattle.gate_lower.proofs.PlainForm.{first_register_at, length_delay_registers, length_latch_registers}
-use Rattle.gate_lower.proofs.Order.{is_ordered}
+use Rattle.gate_lower.proofs.Order.{length-numbered, is_ordered}
 
 -- each register has one bit
 abbrev IsBit : Register → Type 0
@@ -123,6 +123,10 @@ tap_within [] n c d e low high = absurd (cc)
 tap_within (p ∷ ds) zero c d e low high = let same : p.width ≡ d.width = ap (λ (z : Delay). z.width) (some_is p d e) in omega arith
 tap_within (p ∷ ds) (suc n) c d e low high = omega (arith, tap_within ds n c d e low high)
 
+-- what is known of wires and registers whose names are numbered
+abbrev pub NumberedAreValid : Type 0
+NumberedAreValid = (m : Circuit) → HasNumberedNames m → HasPortNames m → HasValidNames m
+
 module _ (g : Netlist) (ok : IsNetlist g) where
   abbrev m : Circuit
   m = plain_module g
@@ -204,8 +208,19 @@ module _ (g : Netlist) (ok : IsNetlist g) where
       ∙ (ap (λ z. names_from 0 first ++ names_from z (held_bits g.gates)) (sym (zero-add first))
       ∙ (sym (names_join 0 first (held_bits g.gates)) ∙ numbered_from (first + held_bits g.gates)))))
 
-  pub is_valid : IsValid m
-  is_valid = record {
+  numbered_names : HasNumberedNames m
+  numbered_names = record {
+    few_wires = omega (arith, wire_count, ok.few_gates);
+    few_regs = omega (arith, register_count, ok.few_bits);
+    wires = ap (numbered (codes "w")) (sym wire_count);
+    regs = names ∙ ap (numbered (codes "r")) (sym register_count);
+  }
+
+  port_names : HasPortNames m
+  port_names = record { inputs = ok.good_input_names; outputs = ok.good_output_names; distinct_inputs = ok.distinct_inputs; distinct_outputs = ok.distinct_outputs }
+
+  pub is_valid : NumberedAreValid → IsValid m
+  is_valid numbered_are_valid = record {
     some_input = ok.some_input;
     few_inputs = ok.few_inputs;
     some_output = omega (arith, length-map g.outputs (λ (o : Output). o.name), ok.some_output);
@@ -213,8 +228,7 @@ module _ (g : Netlist) (ok : IsNetlist g) where
     few_wires = omega (arith, wire_count, ok.few_gates);
     few_bits = omega (arith, count_bits m.regs all_bits, register_count, ok.few_bits);
     widths = All-from_recursion (λ (r : Register). 1 ≤ r.width) m.regs (wide_enough m.regs all_bits);
-    names = numbered_names m (length g.gates) (first + held_bits g.gates) (omega (arith, ok.few_gates)) (omega (arith, ok.few_bits)) refl names
-        ok.good_input_names ok.good_output_names ok.distinct_inputs ok.distinct_outputs;
+    names = numbered_are_valid m numbered_names port_names;
     assigned_in_range = All-from_recursion (λ (a : Assignment). IsInRange m a.bit) m.assigns
         (both_assigns (gate_assigns tap 0 first g.gates) (output_assigns tap 0 g.outputs)
         (assigns_there 0 first g.gates (omega arith) (omega arith) (λ i q e. subst (λ z. HasLines g z q) (sym (zero-add i)) (ok.gates i q e)))

@@ -13,6 +13,7 @@ use crate::names::{copy_names, output_names, wire_names};
 use crate::registers::{delay_registers, first_registers, push_latch_registers};
 use rl_time::NoMemory;
 use std::alloc::Global;
+use verilog_text::validity_laws::numbered_names_are_valid;
 use verilog_text::{Assign, Module, Reg};
 
 /// The registers of the module of gates, and how many of them are the delays'.
@@ -49,6 +50,7 @@ fn build(alloc: Global, g: &Gates) -> Result<Module, NoMemory>
     requires { IsNetlist g.now }
     ensures { IfOk result (λ m. m ≡ plain_module g.now) }
 {
+    numbered_names_are_valid();
     let firsts = first_registers(alloc, g.delays())?;
     let (regs, first_latch) = registers(alloc, g, &firsts)?;
     let assigns = assigns(alloc, g, &firsts, first_latch)?;

@@ -1,17 +1,17 @@
 -- Names made of a prefix and a number: what they are, that they are valid, and that no two are the same.
 use Rattle.std.proofs.Common.{◌≡◌, ◌≢◌, ℕ, zero, suc, ◌+◌, ◌-◌, ◌<◌, ◌≤◌, ◌^◌, ◌%◌, List, [], ◌∷◌, ◌++◌, length, map, get_or, refl, ap, ◌∙◌, sym, inl, inr, arith, true, false, Bool, All, IsTrue, codes, decimal, not, ◌||◌, length-append, subst}
-use Rattle.std.specs.Prelude.{AllPairs, slice_get, Some, ◌==◌, bytes_eq, nat_le}
+use Rattle.std.specs.Prelude.{AllPairs, ◌==◌, bytes_eq, nat_le}
 use Rattle.std.specs.List.{list_all, list_any}
 use Rattle.std.specs.Char.{is_ascii_alphabetic, is_ascii_digit}
 use Rattle.std.proofs.lemmas.List.{get_or_append_left, append_cancel_left, get_or-append_right, get_or-map, length-map}
 use Rattle.std.proofs.lemmas.List.Elements.{All-append}
-use Rattle.std.proofs.lemmas.Option.{slice_get-get_or}
 use Rattle.std.proofs.lemmas.Bool.{cases_lt, le-leb, ne_eqb, and_parts, and_from, and_left, and_right, leb-true, both_ways}
 use Rattle.std.proofs.lemmas.List.Folds.{list_all-append}
 use Rattle.std.proofs.lemmas.Bool.Decides.{nat_tests}
 use Rattle.std.proofs.lemmas.Fmt.{decimal_injective, decimal_by_steps, length-decimal-le}
-use Rattle.verilog_text.specs.Names.{numbered, numbered_name, is_own_name, is_own_first, is_own_byte, is_reserved, reserved_words, is_port_name, in_name, out_name}
+use Rattle.verilog_text.specs.Names.{numbered, numbered_name, is_own_name, is_own_first, is_own_byte, is_reserved, reserved_words, in_name, out_name}
 use Rattle.verilog_text.specs.Circuit.{Circuit}
+use Rattle.verilog_text.specs.Numbering.{HasNumberedNames, HasPortNames}
 use Rattle.verilog_text.specs.Valid.{HasValidNames}
 use Rattle.verilog_text.proofs.Distinct.{AllAcross, AllBegin, all_pairs-append, across_from_first, inputs_begin, outputs_begin, own_names, declared_names_distinct}
 
@@ -33,9 +33,6 @@ get_or-numbered prefix (suc n) k d lt = elim (cases_lt k n) [
         let e : n ≡ length (numbered prefix n) = sym (length-numbered prefix n) in
         let none : n - n ≡ 0 = omega arith in
         get_or-append_right (numbered prefix n) (numbered_name prefix n ∷ []) n n d (sym e) (omega arith) ∙ rw none refl
-
-pub slice_get-numbered : (prefix : List ℕ) (n k : ℕ) → k < n → slice_get (numbered prefix n) k ≡ Some (numbered_name prefix k)
-slice_get-numbered prefix n k lt = slice_get-get_or (numbered prefix n) k [] (omega (arith, length-numbered prefix n)) ∙ ap Some (get_or-numbered prefix n k [] lt)
 
 -- no two numbers give the same name
 pub numbered_name-one : (prefix : List ℕ) (j k : ℕ) → j < 2 ^ 64 → k < 2 ^ 64 → numbered_name prefix j ≡ numbered_name prefix k → j ≡ k
@@ -116,29 +113,29 @@ pub numbered_begin : (c n : ℕ) → AllBegin c (numbered (c ∷ []) n)
 numbered_begin c n = all_numbered (λ name. get_or name 0 0 ≡ c) (c ∷ []) n (λ k lt. refl)
 
 -- wires w0, w1, .. and registers r0, r1, .. give a module valid names, where its ports have them
-pub numbered_names : (m : Circuit) (w r : ℕ) → w ≤ 65536 → r ≤ 65536 → m.wires ≡ numbered (codes "w") w → map (λ q. q.name) m.regs ≡ numbered (codes "r") r →
-    All (λ name. IsTrue (is_port_name name)) m.inputs → All (λ name. IsTrue (is_port_name name)) m.outputs →
-    AllPairs (λ a b. a ≢ b) m.inputs → AllPairs (λ a b. a ≢ b) m.outputs → HasValidNames m
-numbered_names m w r lw lr ew er pi po di do' =
+pub numbered_names : (m : Circuit) → HasNumberedNames m → HasPortNames m → HasValidNames m
+numbered_names m n p =
+    let w = length m.wires in
+    let r = length m.regs in
     let ws : List (List ℕ) = numbered (codes "w") w in
     let rs : List (List ℕ) = numbered (codes "r") r in
-    let own : own_names m ≡ ws ++ rs = ap (λ z. z ++ map (λ q. q.name) m.regs) ew ∙ ap (λ z. ws ++ z) er in
-    let valid_w = own_numbered 119 w refl (omega arith) in
-    let valid_r = own_numbered 114 r refl (omega arith) in
+    let own : own_names m ≡ ws ++ rs = ap (λ z. z ++ map (λ q. q.name) m.regs) n.wires ∙ ap (λ z. ws ++ z) n.regs in
+    let valid_w = own_numbered 119 w refl (omega (arith, n.few_wires)) in
+    let valid_r = own_numbered 114 r refl (omega (arith, n.few_regs)) in
     let distinct : AllPairs (λ a b. a ≢ b) (ws ++ rs) =
-    all_pairs-append (λ a b. a ≢ b) ws rs (numbered_distinct (codes "w") w (omega arith)) (numbered_distinct (codes "r") r (omega arith))
+    all_pairs-append (λ a b. a ≢ b) ws rs (numbered_distinct (codes "w") w (omega (arith, n.few_wires))) (numbered_distinct (codes "r") r (omega (arith, n.few_regs)))
     (across_from_first 119 114 ws rs (λ e. absurd (omega (arith, e))) (numbered_begin 119 w) (numbered_begin 114 r)) in
     let across : (b : ℕ) (ports : List (List ℕ)) → b < 114 → AllBegin b ports → AllAcross (λ x y. x ≢ y) ports (ws ++ rs) = λ b ports lb h k d lt.
     All-append (λ y. get_or ports k d ≢ y) ws rs
     (across_from_first b 119 ports ws (λ e. absurd (omega arith)) h (numbered_begin 119 w) k d lt)
     (across_from_first b 114 ports rs (λ e. absurd (omega arith)) h (numbered_begin 114 r) k d lt) in
     record {
-      inputs = pi;
-      outputs = po;
-      wires = subst (λ z. All (λ name. IsTrue (is_own_name name)) z) (sym ew) valid_w;
+      inputs = p.inputs;
+      outputs = p.outputs;
+      wires = subst (λ z. All (λ name. IsTrue (is_own_name name)) z) (sym n.wires) valid_w;
       regs = λ k d lt. subst (λ z. IsTrue (is_own_name z)) (get_or-map (λ q. q.name) m.regs k d [] lt)
-          (subst (λ z. All (λ name. IsTrue (is_own_name name)) z) (sym er) valid_r k [] (omega (arith, length-map m.regs (λ q. q.name))));
-      distinct = declared_names_distinct m di do'
+          (subst (λ z. All (λ name. IsTrue (is_own_name name)) z) (sym n.regs) valid_r k [] (omega (arith, length-map m.regs (λ q. q.name))));
+      distinct = declared_names_distinct m p.distinct_inputs p.distinct_outputs
           (subst (λ z. AllPairs (λ a b. a ≢ b) z) (sym own) distinct)
           (subst (λ z. All (λ name. IsTrue (is_own_name name)) z) (sym own) (All-append (λ name. IsTrue (is_own_name name)) ws rs valid_w valid_r))
           (subst (λ z. AllAcross (λ x y. x ≢ y) (map in_name m.inputs) z) (sym own) (across 105 _ (omega arith) (inputs_begin m.inputs)))

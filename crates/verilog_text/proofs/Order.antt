@@ -1,48 +1,14 @@
 -- A test of a module's assigns, one after another, that shows their order.
-use Rattle.std.proofs.Common.{◌≡◌, ℕ, zero, suc, ◌+◌, ◌<◌, ◌≤◌, List, [], ◌∷◌, length, refl, ap, ◌∙◌, sym, subst, inl, inr, arith, eq-eqb, true, false, Bool, not, ◌&&◌, ◌||◌, Some, None}
-use Rattle.std.specs.Prelude.{slice_get, ◌==◌, nat_lt, ◌⊎◌}
-use Rattle.std.specs.List.{list_any, list_all}
+use Rattle.std.proofs.Common.{◌≡◌, ℕ, zero, suc, ◌+◌, ◌<◌, ◌≤◌, List, [], ◌∷◌, length, refl, ap, ◌∙◌, sym, subst, inl, inr, arith, eq-eqb, true, false, Bool, not, ◌||◌, Some, None}
+use Rattle.std.specs.Prelude.{slice_get, ◌⊎◌}
+use Rattle.std.specs.List.{list_all}
 use Rattle.std.proofs.lemmas.Bool.{and_parts, not-true, both_ways, eqb-true, ltb-true, or_cases, cases_lt}
 use Rattle.verilog_text.specs.declared.bit.Target.{Target}
 use Rattle.verilog_text.specs.declared.bit.Target.TheVariants as target
 use Rattle.verilog_text.specs.Circuit.{Logic, Zero, One, Input, Wire, Reg, Not, And, Or, Assignment, Circuit, names_wire}
 use Rattle.verilog_text.specs.Meaning.{upto}
+use Rattle.verilog_text.specs.Tested.{target_eq, is_target, is_given, names_given, all_given, in_order}
 use Rattle.verilog_text.specs.Valid.{IsTarget, IsOrdered}
-
-abbrev pub target_eq : Target → Target → Bool
-target_eq (target.Wire v) (target.Wire w) = v == w
-target_eq (target.Out n) (target.Out o) = n == o
-target_eq _ _ = false
-
-abbrev pub is_target : Circuit → Target → Bool
-is_target m (target.Wire w) = nat_lt w (length m.wires)
-is_target m (target.Out o) = nat_lt o (length m.outputs)
-
--- the target is one of these
-abbrev pub is_given : Target → List Target → Bool
-is_given t given = list_any (target_eq t) given
-
--- every wire that the expression names is one of these
-abbrev pub names_given : List Target → Logic → Bool
-names_given given Zero = true
-names_given given One = true
-names_given given (Input i) = true
-names_given given (Wire w) = is_given (target.Wire w) given
-names_given given (Reg r k) = true
-names_given given (Not x) = names_given given x
-names_given given (And x y) = names_given given x && names_given given y
-names_given given (Or x y) = names_given given x && names_given given y
-
--- every wire and every output is one of these
-abbrev pub all_given : Circuit → List Target → Bool
-all_given m given = list_all (λ w. is_given (target.Wire w) given) (upto 0 (length m.wires))
-    && list_all (λ o. is_given (target.Out o) given) (upto 0 (length m.outputs))
-
--- after assigns to the given targets, these assigns are in order, and every wire and output has one
-abbrev pub in_order : Circuit → List Target → List Assignment → Bool
-in_order m given [] = all_given m given
-in_order m given (a ∷ tail) =
-    is_target m a.target && not (is_given a.target given) && names_given given a.bit && in_order m (a.target ∷ given) tail
 
 -- an assign of the list gives the target
 pub record Gives (tail : List Assignment) (t : Target) : Type 0 where

@@ -13,7 +13,7 @@ use Rattle.verilog_text.specs.Valid.{IsValid}
 use Rattle.verilog_text.specs.Grammar.{Form, Header, Input, Output, Wire, Reg}
 use Rattle.verilog_text.specs.Judging.{Meaning, InputAt, OutputAt, WireAt, RegAt, Entry, Declared, SoFar, nothing_yet, found, bits_of, is_clock_or_reset, is_input_port, is_output_port, inputs_in, are_ports, is_few, are_few, is_next, width_of, with_reg, after, input_misnamed, output_misnamed, own_misnamed, breaks_name, breaks_order, breaks_width, breaks_limit, first_rule}
 use Rattle.verilog_text.specs.Printed.{printed_register, printed_ports}
-use Rattle.verilog_text.proofs.Tested.{all_distinct}
+use Rattle.verilog_text.specs.Tested.{all_distinct}
 use Rattle.verilog_text.proofs.PrintedDigits.{decimal_is}
 use Rattle.verilog_text.proofs.PrintedNames.{is_register, IsRegister, register_is}
 use Rattle.verilog_text.proofs.PrintedEntries.{entries_at, entries_more, entries, entries_names, clocks, register_names, names_in, is_new}

@@ -9,7 +9,7 @@ use Rattle.std.proofs.lemmas.Slice.Eq.{bytes_eq-Decides}
 use Rattle.verilog_text.specs.Circuit.{Register, Circuit}
 use Rattle.verilog_text.specs.Names.{in_name, out_name, declared_names}
 use Rattle.verilog_text.specs.Judging.{Meaning, ClockOrReset, InputAt, OutputAt, WireAt, RegAt, Entry, found}
-use Rattle.verilog_text.proofs.Tested.{all_distinct}
+use Rattle.verilog_text.specs.Tested.{all_distinct}
 
 -- ---- distinct names
 

@@ -1,6 +1,6 @@
--- A test that computes, and shows that a module is valid: for modules that are written out.
-use Rattle.std.proofs.Common.{◌≡◌, ◌≢◌, ℕ, List, [], ◌∷◌, length, get_or, refl, arith, true, false, Bool, not, ◌&&◌, Option, Some, None}
-use Rattle.std.specs.Prelude.{AllPairs, slice_get, nat_lt, nat_le, bytes_eq}
+-- A module that passes the test is valid.
+use Rattle.std.proofs.Common.{◌≡◌, ◌≢◌, ℕ, List, [], ◌∷◌, length, get_or, refl, arith, true, not, Option, Some, None}
+use Rattle.std.specs.Prelude.{AllPairs, slice_get, nat_le, bytes_eq}
 use Rattle.std.specs.List.{list_any, list_all}
 use Rattle.std.proofs.lemmas.Bool.{and_parts, not-true, both_ways, ltb-true, leb-true}
 use Rattle.std.proofs.lemmas.List.Sums.{AllPass-from_list_all}
@@ -9,12 +9,9 @@ use Rattle.std.proofs.lemmas.List.Kept.{AllPairs-cons}
 use Rattle.std.proofs.lemmas.Slice.Eq.{bytes_eq-Decides}
 use Rattle.verilog_text.specs.Circuit.{Logic, Zero, One, Input, Wire, Reg, Not, And, Or, Register, Circuit, register_bits}
 use Rattle.verilog_text.specs.Names.{is_port_name, is_own_name, declared_names}
+use Rattle.verilog_text.specs.Tested.{all_distinct, has_bit, is_in_range, has_few, has_names, in_order, is_valid}
 use Rattle.verilog_text.specs.Valid.{HasBit, IsInRange, HasValidNames, IsValid}
-use Rattle.verilog_text.proofs.Order.{in_order, ordered-from_test}
-
-abbrev pub all_distinct : List (List ℕ) → Bool
-all_distinct [] = true
-all_distinct (x ∷ xs) = not (list_any (bytes_eq x) xs) && all_distinct xs
+use Rattle.verilog_text.proofs.Order.{ordered-from_test}
 
 distinct-from_test : (xs : List (List ℕ)) → all_distinct xs ≡ true → AllPairs (λ a b. a ≢ b) xs
 distinct-from_test [] h = λ i j d lt le. absurd (omega arith)
@@ -23,20 +20,6 @@ distinct-from_test (x ∷ xs) h =
     AllPairs-cons (λ a b. a ≢ b) x xs
     (λ k d lt same. both_ways _ (not-true _ p.0) (list_any_at (bytes_eq x) xs k d lt ((bytes_eq-Decides x (get_or xs k d)).1 same)))
     (distinct-from_test xs p.1)
-
-abbrev pub has_bit : Option Register → ℕ → Bool
-has_bit None k = false
-has_bit (Some r) k = nat_lt k r.width
-
-abbrev pub is_in_range : Circuit → Logic → Bool
-is_in_range m Zero = true
-is_in_range m One = true
-is_in_range m (Input i) = nat_lt i (length m.inputs)
-is_in_range m (Wire w) = nat_lt w (length m.wires)
-is_in_range m (Reg r k) = has_bit (slice_get m.regs r) k
-is_in_range m (Not x) = is_in_range m x
-is_in_range m (And x y) = is_in_range m x && is_in_range m y
-is_in_range m (Or x y) = is_in_range m x && is_in_range m y
 
 has_bit-true : (r : Option Register) (k : ℕ) → has_bit r k ≡ true → HasBit r k
 has_bit-true None k h = absurd (both_ways _ refl h)
@@ -54,18 +37,6 @@ in_range-from_test m (And x y) h =
 in_range-from_test m (Or x y) h =
     let p = and_parts (is_in_range m x) (is_in_range m y) h in (in_range-from_test m x p.0, in_range-from_test m y p.1)
 
-abbrev pub has_few : Circuit → Bool
-has_few m = nat_le 1 (length m.inputs) && (nat_le (length m.inputs) 64 && (nat_le 1 (length m.outputs) && (nat_le (length m.outputs) 64
-    && (nat_le (length m.wires) 65536 && nat_le (register_bits m) 65536))))
-
-abbrev pub has_names : Circuit → Bool
-has_names m = list_all is_port_name m.inputs && (list_all is_port_name m.outputs && (list_all is_own_name m.wires
-    && (list_all (λ r. is_own_name r.name) m.regs && all_distinct (declared_names m))))
-
-abbrev pub is_valid : Circuit → Bool
-is_valid m = has_few m && (has_names m && (list_all (λ r. nat_le 1 r.width) m.regs && (list_all (λ a. is_in_range m a.bit) m.assigns
-    && (list_all (λ r. is_in_range m r.next) m.regs && in_order m [] m.assigns))))
-
 names-from_test : (m : Circuit) → has_names m ≡ true → HasValidNames m
 names-from_test m h =
     let p = and_parts (list_all is_port_name m.inputs) _ h in
@@ -80,7 +51,6 @@ names-from_test m h =
       distinct = distinct-from_test (declared_names m) s.1;
     }
 
--- a module that passes the test is valid
 pub valid-from_test : (m : Circuit) → is_valid m ≡ true → IsValid m
 valid-from_test m h =
     let a = and_parts (has_few m) _ h in

@@ -3,7 +3,9 @@ pub mod Code
 pub mod View
 pub mod Names
 pub mod Valid
+pub mod Numbering
 pub mod Meaning
+pub mod Tested
 pub mod Text
 pub mod Repeats
 pub mod Grammar

@@ -12,6 +12,7 @@ mod print;
 pub mod printing_laws;
 mod rule;
 pub mod spelling_laws;
+pub mod validity_laws;
 
 pub use bit::{Bit, Target};
 pub use module::{Assign, Module, Reg};

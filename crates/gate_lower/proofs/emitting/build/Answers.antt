@@ -12,4 +12,4 @@ new-requires c =
     let g = c.args.g.now in
     let e = module_is g _ _ _ _ _ (c.in_ok-inputs.ensures ∙ c.inputs.ensures) (c.in_ok-outputs.ensures ∙ ap output_names c.outputs.ensures)
     (c.in_ok-wires.ensures ∙ ap (λ z. numbered (codes "w") (length z)) c.gates.ensures) c.in_ok-regs.ensures.regs c.in_ok-assigns.ensures in
-    subst IsValid (sym e) (is_valid g c.requires)
+    subst IsValid (sym e) (is_valid g c.requires c.numbered_names_are_valid.ensures)
