@@ -11,6 +11,7 @@ use rl_time::{NoMemory, Time};
 use std::alloc::Global;
 use std::process::Abort;
 use std::test::Fail;
+use verilog_text::validity_laws::test_shows_validity;
 use verilog_text::{Assign, Bit, Module, Reg, Target};
 
 fn names(alloc: Global, texts: &[&str]) -> Result<Vec<Name>, NoMemory>
@@ -43,6 +44,7 @@ fn or(alloc: Global, x: Bit, y: Bit) -> Result<Bit, NoMemory>
 
 // A rise of `a` while `b` is low, kept from then on.
 fn latch(alloc: Global) -> Result<Module, NoMemory> {
+    test_shows_validity();
     let inputs = names(alloc, &["a", "b"])?;
     let outputs = names(alloc, &["y"])?;
     let wires = names(alloc, &["w0"])?;
@@ -58,6 +60,7 @@ fn latch(alloc: Global) -> Result<Module, NoMemory> {
 
 // One input, one cycle later.
 fn delay(alloc: Global) -> Result<Module, NoMemory> {
+    test_shows_validity();
     let inputs = names(alloc, &["a"])?;
     let outputs = names(alloc, &["y"])?;
     let mut regs = Vec::new(alloc);
@@ -70,6 +73,7 @@ fn delay(alloc: Global) -> Result<Module, NoMemory> {
 
 // One input, 3 and 5 cycles later.
 fn two_taps(alloc: Global) -> Result<Module, NoMemory> {
+    test_shows_validity();
     let inputs = names(alloc, &["a"])?;
     let outputs = names(alloc, &["y", "z"])?;
     let mut regs = Vec::new(alloc);
@@ -83,6 +87,7 @@ fn two_taps(alloc: Global) -> Result<Module, NoMemory> {
 
 // One input, 100 cycles later.
 fn long_delay(alloc: Global) -> Result<Module, NoMemory> {
+    test_shows_validity();
     let inputs = names(alloc, &["a"])?;
     let outputs = names(alloc, &["y"])?;
     let mut regs = Vec::new(alloc);
@@ -95,6 +100,7 @@ fn long_delay(alloc: Global) -> Result<Module, NoMemory> {
 
 // A ring of two registers: one takes what the other is not, and that takes what the first is.
 fn ring(alloc: Global) -> Result<Module, NoMemory> {
+    test_shows_validity();
     let inputs = names(alloc, &["a"])?;
     let outputs = names(alloc, &["y", "z"])?;
     let mut regs = Vec::new(alloc);
@@ -122,6 +128,7 @@ fn tap_assigns(alloc: Global, count: u32) -> Result<Vec<Assign>, NoMemory>
 
 // One input, 1 to 64 cycles later.
 fn all_taps(alloc: Global) -> Result<Module, NoMemory> {
+    test_shows_validity();
     let inputs = names(alloc, &["a"])?;
     let outputs = names(
         alloc,
