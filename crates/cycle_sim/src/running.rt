@@ -22,9 +22,7 @@ pub fn simulate(
     rises: &[Time],
     cycles: u32,
 ) -> Result<Vec<Vec<u8>>, NoMemory>
-    requires one_for_each_input { length rises.now ≡ length m.now.inputs }
-    requires some_cycles { 1 ≤ cycles }
-    requires few_cycles { cycles ≤ 100000 }
+    requires { length rises.now ≡ length m.now.inputs }
     ensures { IfOk result (λ rows. (states : List State) × IsHistory m.now (levels_from rises.now 0 cycles) states
         × (map (λ row. row.items) rows.items ≡ output_rows (length m.now.outputs) states)) }
 {
