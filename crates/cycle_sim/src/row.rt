@@ -2,14 +2,15 @@ ghost use Rattle.std.specs.Prelude.{◌≡◌, false, length, replicate, slice_i
 ghost use Rattle.cycle_sim.specs.Levels.{shifted, all_shifted};
 
 use rl_time::NoMemory;
+use smallvec::SmallVec;
 use std::alloc::Global;
 use std::marker::Model;
 use std::mem;
 
-/// The bits of a register, bit 0 first.
+/// The bits of a register, bit 0 first. A short row takes no memory of its own.
 #[derive(Drop)]
 pub struct Row {
-    bits: Vec<bool>,
+    bits: SmallVec<bool, 16>,
 }
 
 impl Model for Row {
@@ -26,7 +27,7 @@ impl Row {
         ensures { IfOk result (λ row. row ≡ replicate width false) }
     {
         Ok(Row {
-            bits: all_low(alloc, width as usize)?,
+            bits: SmallVec::from_elem(alloc, false, width as usize)?,
         })
     }
 
@@ -34,7 +35,7 @@ impl Row {
     pub fn bit(&self, place: u32) -> bool
         ensures { result ≡ slice_index_or self.now place false }
     {
-        read(&self.bits, place)
+        read(self.bits.as_slice(), place)
     }
 
     /// Each bit takes the level of the bit before it, and bit 0 takes this one.
