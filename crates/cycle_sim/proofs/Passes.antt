@@ -27,9 +27,6 @@ pub record Passing (m : Circuit) (old s : State) (k : ℕ) : Type 0 where
   pub inputs : s.inputs ≡ old.inputs
   pub regs : s.regs ≡ old.regs
 
-pub passing_none : (m : Circuit) (s : State) → HasLevels m s → Passing m s s 0
-passing_none m s h = record { state = refl; levels = h; inputs = refl; regs = refl }
-
 pub has_place : (m : Circuit) (s : State) (t : Target) → HasLevels m s → IsTarget m t → HasPlace s t
 has_place m s (target.Wire w) h lt = omega (arith, h.wires)
 has_place m s (target.Out o) h lt = omega (arith, h.outs)

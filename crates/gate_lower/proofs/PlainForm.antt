@@ -79,15 +79,6 @@ register_at-le h [] i = omega arith
 register_at-le h (q ∷ qs) zero = omega arith
 register_at-le h (q ∷ qs) (suc i) = omega (arith, register_at-le (h + latch_bits q) qs i)
 
--- it is among the registers of the latches
-pub register_at-lt : (h : ℕ) (qs : List Gate) (i : ℕ) (x y : Line) → slice_get qs i ≡ Some (gate.Latch x y) → register_at h qs i < h + held_bits qs
-unfolding register_at
-register_at-lt h [] i x y e = absurd (cc)
-register_at-lt h (gate.Or p q ∷ qs) zero x y e = absurd (cc)
-register_at-lt h (gate.And p q ∷ qs) zero x y e = absurd (cc)
-register_at-lt h (gate.Latch p q ∷ qs) zero x y e = omega arith
-register_at-lt h (q ∷ qs) (suc i) x y e = omega (arith, register_at-lt (h + latch_bits q) qs i x y e)
-
 pub gate_assign_at : (tap : ℕ → ℕ → Logic) (k h : ℕ) (qs : List Gate) (i : ℕ) (q : Gate) → slice_get qs i ≡ Some q →
     slice_get (gate_assigns tap k h qs) i ≡ Some (record { target = target.Wire (k + i); bit = gate_logic tap (b.Reg (register_at h qs i) 0) q })
 unfolding register_at

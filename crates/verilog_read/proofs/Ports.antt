@@ -98,10 +98,6 @@ input_name n h = let p = and_parts (bytes_eq (take 3 n) (codes "in_")) (is_port_
 pub output_name : (n : List ℕ) → is_output_port n ≡ true → (out_name (drop 4 n) ≡ n) × (is_port_name (drop 4 n) ≡ true)
 output_name n h = let p = and_parts (bytes_eq (take 4 n) (codes "out_")) (is_port_name (drop 4 n)) h in (with_front (codes "out_") n 4 p.0, p.1)
 
-test_false : (b : Bool) → (b ≡ true → ⊥) → b ≡ false
-test_false true h = absurd (h refl)
-test_false false h = refl
-
 pub input_no_output : (n : List ℕ) → is_input_port n ≡ true → is_output_port n ≡ false
 input_no_output n h = subst (λ (z : List ℕ). is_output_port z ≡ false) (input_name n h).0 refl
 

@@ -201,9 +201,6 @@ module _ (x : SoFar) (n : List ℕ) (s : IsSound x) (fresh : found n x.entries �
 
 -- ---- the header, and nothing
 
-nothing_at : {X : Type 0} (k : ℕ) (z : X) → slice_get [] k ≡ Some z → ⊥
-nothing_at k z e = cc
-
 pub sound_header : (ports : List (List ℕ)) → count_by is_input_port ports ≤ 64 → count_by is_output_port ports ≤ 64 → IsSound (record nothing_yet { to_declare = ports })
 sound_header ports i o = record {
   few_inputs = omega (arith, i);

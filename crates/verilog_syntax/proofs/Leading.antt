@@ -23,9 +23,6 @@ pub record HaveLed (ls : List Lexeme) (before : List Statement) (k : Stage) (res
   pub leads : Leads Start ls before k rest
   pub ends : k ≡ Finished → rest ≡ []
 
-pub led_by_none : (ls : List Lexeme) → HaveLed ls [] Start ls
-led_by_none ls = record { leads = (refl, refl); ends = λ e. absurd cc }
-
 leads_more : (k : Stage) (ls : List Lexeme) (before : List Statement) (last : Stage) (rest : List Lexeme) (s : Statement) (after : List Lexeme) → Leads k ls before last rest → Opens last rest s after → Leads k ls (before ++ s ∷ []) (stage_after s.form) after
 leads_more k ls [] last rest s after x o =
     (after, subst (λ (j : Stage). Opens j ls s after) (sym x.0) (subst (λ (r : List Lexeme). Opens last r s after) (sym x.1) o), (refl, refl))

@@ -68,9 +68,6 @@ reads_outputs_listed (n ∷ names) rest ws h s r =
     let bytes : (((codes ", out_" ++ n) ++ []) ++ others) ++ rest ≡ codes ", out_" ++ (n ++ (others ++ rest)) = simp append_assoc in
     (subst (λ (t : List ℕ). Reads t (comma ∷ name (out_name n) ∷ (listed (map out_name names) ++ ws))) (sym bytes) (reads_comma (reads_space (reads_name (out_name n) (output_is_name n a.0) more.1 more.0))), refl)
 
-header_words : (i o ws : List Word) (m r : Word) → (m ∷ r ∷ (i ++ (o ++ (close ∷ semicolon ∷ ws)))) ≡ ((m ∷ r ∷ (i ++ o)) ++ close ∷ semicolon ∷ []) ++ ws
-header_words i o ws m r = simp append_assoc
-
 reads_header : (m : Circuit) (rest : List ℕ) (ws : List Word) → IsPrintable m → Reads rest ws
     → Reads (header_start ++ (input_ports m ++ (output_ports m ++ (codes ");\n" ++ rest)))) (spelled_form (Header (codes "race") (printed_ports m)) ++ ws)
 unfolding header_start input_ports output_ports

@@ -48,16 +48,6 @@ pub record IsGate (m : Circuit) (w : ℕ) (kind : Kind) (p q : Logic) : Type 0 w
   pub right : IsTrue (is_operand q)
   pub kind_is : HasKind m w kind p q
 
--- register h is a latch's
-abbrev pub IsLatchRegister : Circuit → ℕ → Type 0
-IsLatchRegister m h = (w : ℕ) × (p : Logic) × (q : Logic) ×
-    IsTrue (is_operand p) × IsTrue (is_operand q) × IsLatch m w h p q
-
--- register h, which is r, is a delay register: it is no latch's
-pub record IsDelayRegister (m : Circuit) (h : ℕ) (r : Register) : Type 0 where
-  pub there : slice_get m.regs h ≡ Some r
-  pub no_latch : ¬ IsLatchRegister m h
-
 abbrev pub EachWireHasGate : Circuit → Type 0
 EachWireHasGate m = (w : ℕ) → w < length m.wires →
     (kind : Kind) × (p : Logic) × (q : Logic) × IsGate m w kind p q
@@ -70,18 +60,8 @@ abbrev pub NoGateTwice : Circuit → Type 0
 NoGateTwice m = (v w : ℕ) (kind : Kind) (p q : Logic) →
     IsGate m v kind p q → IsGate m w kind p q → v ≡ w
 
--- no two delay registers take the same expression
-abbrev pub NoDelayTwice : Circuit → Type 0
-NoDelayTwice m = (g h : ℕ) (r s : Register) → IsDelayRegister m g r → IsDelayRegister m h s →
-    r.next ≡ s.next → g ≡ h
-
 -- each wire is a gate, each output is a copy of an operand, and no gate is there twice
 pub record HasNoRepeatedWire (m : Circuit) : Type 0 where
   pub gates : EachWireHasGate m
   pub outputs : EachOutputIsOperand m
   pub wires : NoGateTwice m
-
--- without a repeated gate: also no delay is there twice
-pub record HasNoRepeatedGate (m : Circuit) : Type 0 where
-  pub gates : HasNoRepeatedWire m
-  pub delays : NoDelayTwice m
