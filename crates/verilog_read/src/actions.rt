@@ -11,7 +11,6 @@ use crate::draft::{Draft, StepError};
 use crate::expressions::{are_given, fits_widths, is_set, knows, resolve};
 use crate::scope::{Meaning, Scope};
 use itoa::Buffer;
-use rl_text::Name;
 use rl_time::NoMemory;
 use std::alloc::Global;
 use verilog_syntax::{Always, Next, Written};
@@ -202,14 +201,12 @@ fn always_misnamed(draft: &Draft<'_, '_>, always: &Always<'_>) -> bool
 }
 
 /// The registers, where the one at this place takes this.
-fn set_next(alloc: Global, regs: &mut Vec<Reg>, place: u32, next: Bit) -> Result<(), NoMemory>
-    ensures { OnOk result (regs.new.items ≡ set_register place (slice_get regs.old.items place) (logic next) regs.old.items) }
+fn set_next(regs: &mut Vec<Reg>, place: u32, next: Bit)
+    ensures { regs.new.items ≡ set_register place (slice_get regs.old.items place) (logic next) regs.old.items }
 {
     if let Some(reg) = regs.get_mut(place as usize) {
-        let name = Name::new(alloc, reg.name().bytes())?;
-        *reg = Reg::new(name, reg.width(), next);
+        reg.set_next(next);
     }
-    Ok(())
 }
 
 fn push_always(
@@ -221,7 +218,7 @@ fn push_always(
 {
     let next = resolve(alloc, expression_of(&always.next), &draft.scope)?;
     if let Some(Meaning::Reg(r)) = draft.scope.get(always.reset) {
-        set_next(alloc, &mut draft.regs, r, next)?;
+        set_next(&mut draft.regs, r, next);
         set_flag(&mut draft.updated, r);
     }
     Ok(())

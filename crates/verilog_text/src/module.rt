@@ -100,6 +100,13 @@ impl Reg {
     {
         &self.next
     }
+
+    /// From now on bit 0 takes the level of this expression.
+    pub fn set_next(&mut self, next: Bit)
+        ensures { self.new ≡ record self.old { next = logic next } }
+    {
+        self.next = next;
+    }
 }
 
 /// A valid module, seen as a `Circuit`. Inputs and outputs are named without the prefixes `in_` and `out_`.
