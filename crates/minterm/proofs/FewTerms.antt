@@ -167,7 +167,7 @@ both_wider : (c : Bool) (t : Tree) (xs ys : List Tree) → length xs ≤ length 
 both_wider true t xs ys h = omega (arith, h)
 both_wider false t xs ys h = h
 
-once_less : (p : Tree → Bool) (ts : List Tree) → length (filter p (distinct ts)) ≤ length (filter p ts)
+pub once_less : (p : Tree → Bool) (ts : List Tree) → length (filter p (distinct ts)) ≤ length (filter p ts)
 once_less p [] = omega arith
 once_less p (t ∷ ts) = go (is_among t ts) (once_less p ts)
   where
@@ -188,31 +188,31 @@ all_once P (t ∷ ts) all = go (is_among t ts) (all_once P ts all.1)
 
 -- ---- what the operators keep
 
-record Keeps (P : Tree → Type 0) : Type 0 where
-  never : P Never
-  of_min : (a b : Tree) → P a → P b → P (Min a b)
-  of_max : (a b : Tree) → P a → P b → P (Max a b)
-  of_lt : (a b : Tree) → P a → P b → P (Lt a b)
+pub record Keeps (P : Tree → Type 0) : Type 0 where
+  pub never : P Never
+  pub of_min : (a b : Tree) → P a → P b → P (Min a b)
+  pub of_max : (a b : Tree) → P a → P b → P (Max a b)
+  pub of_lt : (a b : Tree) → P a → P b → P (Lt a b)
 
 joined_keeps : (P : Tree → Type 0) (op : Tree → Tree → Tree) → ((a b : Tree) → P a → P b → P (op a b)) → (t : Tree) (us : List Tree) → P t → AllByRecursion P us → P (joined op t us)
 joined_keeps P op h t [] p all = p
 joined_keeps P op h t (u ∷ us) p all = joined_keeps P op h (op t u) us (h t u p all.0) all.1
 
-together_keeps : (P Q : Tree → Type 0) → Keeps P → Keeps Q → ((t : Tree) → P t → Q t) → ((t : Tree) → P t → Q (Inc t 1)) → (ts : List Tree) → AllByRecursion P ts → Q (together ts)
+pub together_keeps : (P Q : Tree → Type 0) → Keeps P → Keeps Q → ((t : Tree) → P t → Q t) → ((t : Tree) → P t → Q (Inc t 1)) → (ts : List Tree) → AllByRecursion P ts → Q (together ts)
 together_keeps P Q k m weak later [] all = m.never
 together_keeps P Q k m weak later (t ∷ []) all = weak t all.0
 together_keeps P Q k m weak later (t ∷ u ∷ ts) all =
     m.of_lt (joined Max t (u ∷ ts)) (Inc (joined Min t (u ∷ ts)) 1) (weak _ (joined_keeps P Max k.of_max t (u ∷ ts) all.0 all.1)) (later _ (joined_keeps P Min k.of_min t (u ∷ ts) all.0 all.1))
 
-before_keeps : (P : Tree → Type 0) → Keeps P → (t : Tree) (us : List Tree) → P t → AllByRecursion P us → P (before_all t us)
+pub before_keeps : (P : Tree → Type 0) → Keeps P → (t : Tree) (us : List Tree) → P t → AllByRecursion P us → P (before_all t us)
 before_keeps P k t [] p all = p
 before_keeps P k t (u ∷ us) p all = k.of_lt t (joined Min u us) p (joined_keeps P Min k.of_min u us all.0 all.1)
 
-earliest_keeps : (P : Tree → Type 0) → Keeps P → (ts : List Tree) → AllByRecursion P ts → P (earliest ts)
+pub earliest_keeps : (P : Tree → Type 0) → Keeps P → (ts : List Tree) → AllByRecursion P ts → P (earliest ts)
 earliest_keeps P k [] all = k.never
 earliest_keeps P k (t ∷ ts) all = joined_keeps P Min k.of_min t ts all.0 all.1
 
-all_minterms : (P : Tree → Type 0) (n : ℕ) (rows : List Row) → ((r : Row) → IsRow n r → P (minterm r)) → AllByRecursion (IsRow n) rows → AllByRecursion P (map minterm rows)
+pub all_minterms : (P : Tree → Type 0) (n : ℕ) (rows : List Row) → ((r : Row) → IsRow n r → P (minterm r)) → AllByRecursion (IsRow n) rows → AllByRecursion P (map minterm rows)
 all_minterms P n [] h all = tt
 all_minterms P n (r ∷ rows) h all = (h r all.0, all_minterms P n rows h all.1)
 
@@ -257,20 +257,37 @@ is_short t table = earliest_keeps (UpTo 256) (short_keeps 256) (map minterm t.ro
 
 -- inputs
 
-abbrev Below : ℕ → Tree → Type 0
-Below n t = AllByRecursion (IsInputBelow n) (subterms t)
-
 all_parts : (P : Tree → Type 0) (xs ys : List Tree) → AllByRecursion P xs → AllByRecursion P ys → AllByRecursion P (xs ++ ys)
 all_parts P [] ys p q = q
 all_parts P (x ∷ xs) ys p q = (p.0, all_parts P xs ys p.1 q)
 
-below_keeps : (n : ℕ) → Keeps (Below n)
-below_keeps n = record {
-  never = (tt, tt);
-  of_min = λ a b p q. (tt, all_parts (IsInputBelow n) (subterms a) (subterms b) p q);
-  of_max = λ a b p q. (tt, all_parts (IsInputBelow n) (subterms a) (subterms b) p q);
-  of_lt = λ a b p q. (tt, all_parts (IsInputBelow n) (subterms a) (subterms b) p q);
+-- each part of the term
+abbrev pub Each : (Tree → Type 0) → Tree → Type 0
+Each P t = AllByRecursion P (subterms t)
+
+-- what is said of never and of every min, max and lt
+pub record IsOfJoins (P : Tree → Type 0) : Type 0 where
+  pub never : P Never
+  pub min : (a b : Tree) → P (Min a b)
+  pub max : (a b : Tree) → P (Max a b)
+  pub lt : (a b : Tree) → P (Lt a b)
+
+pub each_keeps : (P : Tree → Type 0) → IsOfJoins P → Keeps (Each P)
+each_keeps P h = record {
+  never = (h.never, tt);
+  of_min = λ a b p q. (h.min a b, all_parts P (subterms a) (subterms b) p q);
+  of_max = λ a b p q. (h.max a b, all_parts P (subterms a) (subterms b) p q);
+  of_lt = λ a b p q. (h.lt a b, all_parts P (subterms a) (subterms b) p q);
 }
+
+pub each_once : (P : Tree → Type 0) (t : Tree) → Each P t → AllByRecursion P (distinct_subterms (t ∷ []))
+each_once P t all = all_once P (all_subterms (t ∷ [])) (subst (AllByRecursion P) (sym (append-nil (subterms t))) all)
+
+abbrev Below : ℕ → Tree → Type 0
+Below n t = Each (IsInputBelow n) t
+
+below_keeps : (n : ℕ) → Keeps (Below n)
+below_keeps n = each_keeps (IsInputBelow n) (record { never = tt; min = λ a b. tt; max = λ a b. tt; lt = λ a b. tt })
 
 delayed_below : (n i c : ℕ) → i < n → Below n (delayed (Input i) c)
 delayed_below n i c h = go (nat_eq c 0)
@@ -307,7 +324,5 @@ are_few t table = record {
   few_delays =
       omega (arith, one_term is_delay (synthesised t), earliest_delays (map minterm t.rows), rows_delays (length t.inputs) t.rows table.few_inputs table.rows, table.few_rows);
   short = (omega (arith, is_short t table), tt);
-  inputs =
-      all_once (IsInputBelow (length t.inputs)) (all_subterms (synthesised t ∷ []))
-      (subst (AllByRecursion (IsInputBelow (length t.inputs))) (sym (append-nil (subterms (synthesised t)))) (is_below t table));
+  inputs = each_once (IsInputBelow (length t.inputs)) (synthesised t) (is_below t table);
 }

@@ -6,7 +6,7 @@ ghost use Rattle.func_table.specs.Rules.{IsTable};
 ghost use Rattle.func_table.specs.Sound.{AreSound};
 ghost use Rattle.func_table.specs.Function.{table_function};
 ghost use Rattle.term_store.specs.Tree.{value, span};
-ghost use Rattle.term_store.specs.Subterms.{AreNetworkTerms};
+ghost use Rattle.term_store.specs.Subterms.{AreNetworkTerms, register_bits};
 ghost use Rattle.term_store.specs.Ports.{ArePorts};
 ghost use Rattle.minterm.specs.Minterms.{synthesised};
 
@@ -16,11 +16,12 @@ pub fn the_term_has_the_tables_values()
         value x (synthesised t) ≡ table_function t.rows x }
 {}
 
-/// The term of a table has no more distinct operators than a network may have, and is at most 256
-/// cycles later than an input.
+/// The term of a table has no more distinct operators than a network may have, is at most 256 cycles
+/// later than an input, and needs no more register bits than a module may have.
 pub fn table_terms_are_few()
     ensures terms { (t : Table) → IsTable t → AreNetworkTerms (length t.inputs) (synthesised t ∷ []) }
     ensures short { (t : Table) → IsTable t → span (synthesised t) ≤ 256 }
+    ensures bits { (t : Table) → IsTable t → register_bits (synthesised t ∷ []) ≤ 65536 }
 {}
 
 /// The names of a table are such as a network with one output may have.

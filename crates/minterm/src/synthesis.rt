@@ -4,10 +4,10 @@ ghost use Rattle.std.specs.List.{All, AllByRecursion};
 ghost use Rattle.rl_time.specs.declared.time.Time.{Time};
 ghost use Rattle.term_store.specs.Nodes.{IsNodes};
 ghost use Rattle.term_store.specs.Terms.{input_trees};
-ghost use Rattle.term_store.specs.Tree.{value};
+ghost use Rattle.term_store.specs.Tree.{value, span};
 ghost use Rattle.term_store.specs.Trees.{tree, trees_at, plant, IsPrefix};
 ghost use Rattle.term_store.specs.Planting.{IsPlanted, ArePlanted};
-ghost use Rattle.term_store.specs.Subterms.{AreNetworkTerms};
+ghost use Rattle.term_store.specs.Subterms.{AreNetworkTerms, register_bits};
 ghost use Rattle.func_table.specs.Rules.{IsRow};
 ghost use Rattle.func_table.specs.Sound.{IsInOrder, AreSound};
 ghost use Rattle.func_table.specs.Function.{table_function};
@@ -41,6 +41,8 @@ pub fn synth(alloc: Global, table: &Table, store: &mut Store) -> Result<Term, No
     ensures term { IfOk result (λ place. tree store.new.nodes place.0 ≡ synthesised table.now) }
     ensures times { IfOk result (λ place. (x : List Time) → length x ≡ length table.now.inputs → value x (tree store.new.nodes place.0) ≡ table_function table.now.rows x) }
     ensures terms { IfOk result (λ place. AreNetworkTerms (length table.now.inputs) (trees_at store.new.nodes (place ∷ []))) }
+    ensures short { IfOk result (λ place. span (tree store.new.nodes place.0) ≤ 256) }
+    ensures bits { IfOk result (λ place. register_bits (trees_at store.new.nodes (place ∷ [])) ≤ 65536) }
     ensures unchanged { OnErr result (store.new.nodes ≡ store.old.nodes) }
 {
     store.rules();

@@ -1,5 +1,6 @@
 use Rattle.minterm.proofs.FewTerms.{are_few, is_short}
+use Rattle.minterm.proofs.TableBits.{are_few_bits}
 use Rattle.minterm.proofs.laws.table_terms_are_few.Goals as goal
 
 pub returns : goal.returns
-returns c = record { terms = are_few; short = is_short }
+returns c = record { terms = are_few; short = is_short; bits = are_few_bits }
