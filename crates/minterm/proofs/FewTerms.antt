@@ -167,7 +167,7 @@ both_wider : (c : Bool) (t : Tree) (xs ys : List Tree) → length xs ≤ length 
 both_wider true t xs ys h = omega (arith, h)
 both_wider false t xs ys h = h
 
-pub once_less : (p : Tree → Bool) (ts : List Tree) → length (filter p (distinct ts)) ≤ length (filter p ts)
+once_less : (p : Tree → Bool) (ts : List Tree) → length (filter p (distinct ts)) ≤ length (filter p ts)
 once_less p [] = omega arith
 once_less p (t ∷ ts) = go (is_among t ts) (once_less p ts)
   where

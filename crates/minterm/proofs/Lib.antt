@@ -6,7 +6,6 @@ pub mod Joins
 pub mod Entries
 pub mod Rows
 pub mod FewTerms
-pub mod FewBits
 pub mod TableBits
 pub mod Sampled
 pub mod Ports

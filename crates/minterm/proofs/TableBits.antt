@@ -1,14 +1,13 @@
 -- A table's term needs no more register bits than a module may have.
-use Rattle.std.proofs.Common.{ℕ, suc, ◌≤◌, ◌-◌, arith, Bool, true, false, nat_eq, length, List, [], ◌∷◌, map, if◌then◌else◌, Option, Some, None}
+use Rattle.std.proofs.Common.{ℕ, suc, ◌≤◌, ◌-◌, ◌+◌, ◌*◌, arith, Bool, true, false, nat_eq, length, List, [], ◌∷◌, map, if◌then◌else◌, Option, Some, None}
 use Rattle.std.specs.List.{AllByRecursion}
 use Rattle.term_store.specs.Tree.{Tree, Never, Input, Min, Max, Lt, Inc}
 use Rattle.term_store.specs.Terms.{delayed}
-use Rattle.term_store.specs.Subterms.{register_bits}
+use Rattle.term_store.specs.Subterms.{IsShortDelay, IsInputBelow, distinct_subterms, join_count, delay_count, register_bits}
 use Rattle.func_table.specs.Table.{Row, Table}
 use Rattle.func_table.specs.Rules.{IsRow, IsTable}
 use Rattle.minterm.specs.Minterms.{number_terms, dash_terms, together, minterm, synthesised}
 use Rattle.minterm.proofs.FewTerms.{Keeps, Each, each_keeps, each_once, together_keeps, before_keeps, earliest_keeps, all_minterms, are_few}
-use Rattle.minterm.proofs.FewBits.{IsShortDelay, few_bits}
 
 -- inputs are delayed by at most 255 cycles, and other parts of the term by one
 abbrev AreShort : Tree → Type 0
@@ -51,8 +50,13 @@ minterm_short n r row =
 table_short : (t : Table) → IsTable t → AreShort (synthesised t)
 table_short t table = earliest_keeps AreShort short_keeps (map minterm t.rows) (all_minterms AreShort (length t.inputs) t.rows (minterm_short (length t.inputs)) table.rows)
 
--- 255 for each of 16 inputs, and 1 for each of 16,384 inc and as many lt
-pub are_few_bits : (t : Table) → IsTable t → register_bits (synthesised t ∷ []) ≤ 65536
-are_few_bits t table =
+-- what is known of the register bits of terms with short delays
+abbrev pub NeedFewBits : Type 0
+NeedFewBits = (m inputs : ℕ) (trees : List Tree) → 1 ≤ m → AllByRecursion (IsInputBelow inputs) (distinct_subterms trees) →
+    AllByRecursion (IsShortDelay m) (distinct_subterms trees) → register_bits trees ≤ m * inputs + delay_count trees + join_count trees
+
+-- 255 for each of 16 inputs, and 1 for each of 16,384 inc and as many min, max and lt
+pub are_few_bits : NeedFewBits → (t : Table) → IsTable t → register_bits (synthesised t ∷ []) ≤ 65536
+are_few_bits few_bits t table =
     let few = are_few t table in
     omega (arith, few_bits 255 (length t.inputs) (synthesised t ∷ []) (omega arith) few.inputs (each_once (IsShortDelay 255) (synthesised t) (table_short t table)), few.few_joins, few.few_delays, table.few_inputs)

@@ -17,6 +17,7 @@ ghost use Rattle.minterm.specs.Steps.{AreInputs, AreRowsPlanted};
 
 use crate::join::Join;
 use crate::joining::put_joined;
+use crate::laws::table_terms_are_few;
 use crate::planting::planting_laws;
 use crate::row::put_row;
 use func_table::{Row, Table};
@@ -47,6 +48,7 @@ pub fn synth(alloc: Global, table: &Table, store: &mut Store) -> Result<Term, No
 {
     store.rules();
     table.rules();
+    table_terms_are_few();
     let count = table.inputs().len();
     store.reserve(MOST_ADDED)?;
     let mut inputs = Vec::with_capacity(alloc, count)?;

@@ -13,6 +13,7 @@ pub mod Parts
 pub mod Marks
 pub mod TermValues
 pub mod FewTerms
+pub mod FewBits
 pub mod Lets
 pub mod LetTrees
 pub mod LetRules

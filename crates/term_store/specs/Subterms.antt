@@ -81,6 +81,16 @@ longest_delay trees t = fold max 0 (map (delay_of t) (distinct_subterms trees))
 abbrev pub register_bits : List Tree → ℕ
 register_bits trees = sum_by (longest_delay trees) (distinct_subterms trees) + lt_count trees
 
+-- by how many cycles a term may be delayed where inputs are by at most m: an input by m, and any other by one
+abbrev pub longest_for : ℕ → Tree → ℕ
+longest_for m (Input i) = m
+longest_for m t = 1
+
+-- t is an inc only where it delays no longer than that
+abbrev pub IsShortDelay : ℕ → Tree → Type 0
+IsShortDelay m (Inc a c) = c ≤ longest_for m a
+IsShortDelay m t = Unit {0}
+
 -- t is an input only where its place is below the count
 abbrev pub IsInputBelow : ℕ → Tree → Type 0
 IsInputBelow count (Input i) = i < count

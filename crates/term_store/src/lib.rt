@@ -16,7 +16,7 @@ mod tests;
 
 pub use laws::{
     network_names_are_ports, network_terms_are_few, no_two_places_alike, reached_places,
-    terms_have_the_networks_values,
+    short_delays_need_few_bits, terms_have_the_networks_values,
 };
 pub use node::{Node, StoreError, Term};
 pub use place_laws::{

@@ -4,8 +4,6 @@ use Rattle.term_store.specs.Trees.{tree, trees_at}
 use Rattle.term_store.specs.Subterms.{AreNetworkTerms, register_bits}
 use Rattle.minterm.specs.Minterms.{minterm, earliest, synthesised}
 use Rattle.minterm.proofs.TableTimes.{table_is}
-use Rattle.minterm.proofs.FewTerms.{are_few, is_short}
-use Rattle.minterm.proofs.TableBits.{are_few_bits}
 use Rattle.minterm.proofs.synthesis.synth.Goals.{After-put_earliest}
 use Rattle.minterm.proofs.synthesis.synth.Goals as goal
 
@@ -20,12 +18,12 @@ returns-clause-times c = λ x l. ap (value x) (term_is (goal.at.returns-clause-t
 
 pub returns-clause-terms : goal.returns-clause-terms
 returns-clause-terms c =
-    subst (λ t. AreNetworkTerms (length c.args.table.now.inputs) (t ∷ [])) (sym (term_is (goal.at.returns-clause-terms c).After-put_earliest)) (are_few c.args.table.now c.rules-2.ensures)
+    subst (λ t. AreNetworkTerms (length c.args.table.now.inputs) (t ∷ [])) (sym (term_is (goal.at.returns-clause-terms c).After-put_earliest)) (c.table_terms_are_few.ensures.terms c.args.table.now c.rules-2.ensures)
 
 pub returns-clause-short : goal.returns-clause-short
 returns-clause-short c =
-    subst (λ t. span t ≤ 256) (sym (term_is (goal.at.returns-clause-short c).After-put_earliest)) (is_short c.args.table.now c.rules-2.ensures)
+    subst (λ t. span t ≤ 256) (sym (term_is (goal.at.returns-clause-short c).After-put_earliest)) (c.table_terms_are_few.ensures.short c.args.table.now c.rules-2.ensures)
 
 pub returns-clause-bits : goal.returns-clause-bits
 returns-clause-bits c =
-    subst (λ t. register_bits (t ∷ []) ≤ 65536) (sym (term_is (goal.at.returns-clause-bits c).After-put_earliest)) (are_few_bits c.args.table.now c.rules-2.ensures)
+    subst (λ t. register_bits (t ∷ []) ≤ 65536) (sym (term_is (goal.at.returns-clause-bits c).After-put_earliest)) (c.table_terms_are_few.ensures.bits c.args.table.now c.rules-2.ensures)

@@ -5,19 +5,8 @@ use Rattle.std.proofs.Math.Nat.{max-le, mul-le-mul_left}
 use Rattle.std.proofs.lemmas.Bool.{cases_lt}
 use Rattle.std.proofs.lemmas.List.Sums.{sum_by-cons, sum_by-le-sum_by}
 use Rattle.term_store.specs.Tree.{Tree, Never, Input, Min, Max, Lt, Inc}
-use Rattle.term_store.specs.Subterms.{same_tree, is_among, distinct, all_subterms, distinct_subterms, is_join, is_lt, is_delay, join_count, delay_count, delay_of, register_bits, IsInputBelow}
+use Rattle.term_store.specs.Subterms.{same_tree, is_among, distinct, all_subterms, distinct_subterms, is_join, is_lt, is_delay, join_count, delay_count, delay_of, register_bits, longest_for, IsShortDelay, IsInputBelow}
 use Rattle.term_store.proofs.Parts.{same_refl, same_is, or_left, or_right}
-use Rattle.minterm.proofs.FewTerms.{once_less}
-
--- by how many cycles a term may be delayed: an input by m, and every other by one
-abbrev pub longest_for : ℕ → Tree → ℕ
-longest_for m (Input i) = m
-longest_for m t = 1
-
--- t is an inc only where it delays no longer than that
-abbrev pub IsShortDelay : ℕ → Tree → Type 0
-IsShortDelay m (Inc a c) = c ≤ longest_for m a
-IsShortDelay m t = Unit {0}
 
 -- ---- sums
 
@@ -63,6 +52,22 @@ fold_within P f a m [] le h all = le
 fold_within P f a m (t ∷ ts) le h all = fold_within P f (max a (f t)) m ts (max-le le (h t all.0)) h all.1
 
 -- ---- a list in which each term stands once
+
+wider : (c : Bool) (t : Tree) (xs ys : List Tree) → length xs ≤ length ys → length xs ≤ length (if c then t ∷ ys else ys)
+wider true t xs ys h = omega (arith, h)
+wider false t xs ys h = h
+
+both_wider : (c : Bool) (t : Tree) (xs ys : List Tree) → length xs ≤ length ys → length (if c then t ∷ xs else xs) ≤ length (if c then t ∷ ys else ys)
+both_wider true t xs ys h = omega (arith, h)
+both_wider false t xs ys h = h
+
+once_less : (p : Tree → Bool) (ts : List Tree) → length (filter p (distinct ts)) ≤ length (filter p ts)
+once_less p [] = omega arith
+once_less p (t ∷ ts) = go (is_among t ts) (once_less p ts)
+  where
+    go : (b : Bool) → length (filter p (distinct ts)) ≤ length (filter p ts) → length (filter p (if b then distinct ts else t ∷ distinct ts)) ≤ length (filter p (t ∷ ts))
+    go true h = wider (p t) t (filter p (distinct ts)) (filter p ts) h
+    go false h = both_wider (p t) t (filter p (distinct ts)) (filter p ts) h
 
 right_false : (p q : Bool) → (p || q) ≡ false → q ≡ false
 right_false p true e = absurd (true≢false (sym (or_right p true refl) ∙ e))
