@@ -13,7 +13,7 @@ use verilog_text::Module;
 
 /// The levels of each output of a module in the first cycles after reset, where each input rises at its time and
 /// stays high: for each output in order one digit `0` or `1` a cycle, from cycle 0 on. There is one time for each
-/// input, and there are 1 to 100,000 cycles.
+/// input.
 ///
 /// It takes all its memory before cycle 0, and time in proportion to the module and the number of cycles.
 pub fn simulate(
