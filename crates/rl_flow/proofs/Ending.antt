@@ -4,6 +4,11 @@ use Rattle.std.specs.Prelude.{◌⊎◌, IsSomeAnd, OnOk, OnErr}
 use Rattle.rl_io.specs.Causes.{Rose}
 use Rattle.rl_io.specs.Files.{Files, OnFile, Adds}
 use Rattle.func_table.specs.Table.{Row}
+use Rattle.term_store.specs.Subterms.{register_bits}
+use Rattle.rl_flow.specs.declared.source.Source.{Source}
+use Rattle.rl_flow.specs.declared.source.Source.TheVariants.{OfNetwork, OfTable}
+use Rattle.rl_flow.specs.Sources.{terms_of}
+use Rattle.rl_flow.specs.Compiled.{HasFewBits}
 use Rattle.rl_flow.specs.Task.{Task, Compile, Eval, Synth, Tabulate, Sim, Command}
 use Rattle.rl_flow.specs.Answers.{limit_of, IsText, CanBeDone, IsCause, IsTooLong, OnBytes, IsAnswer, Answers, WritesPart, PutsLine, HasCause, Leaves, Tells, EndsBy}
 use Rattle.rl_flow.specs.Refusal.{status_of, line_of}
@@ -26,9 +31,14 @@ told_file (Some files) file bytes P t h = subst (λ (found : Option (List ℕ)).
 named : (command : Option Command) (c : Command) (P : Command → Type 0) → command ≡ Some c → IsSomeAnd command P → P c
 named command c P e h = subst (λ (z : Option Command). IsSomeAnd z P) e h
 
+-- a source that needs no more register bits than a module may have
+has_few : (s : Source) → register_bits (terms_of s) ≤ 65536 → HasFewBits s
+has_few (OfNetwork n) few = few
+has_few (OfTable t) few = tt
+
 -- what was done can be done
 can : (task : Task) (bytes text : List ℕ) → IsText task bytes text → CanBeDone task bytes
-can Compile bytes text x = (x.source, x.read, x.few)
+can Compile bytes text x = (x.source, x.read, has_few x.source x.few)
 can (Eval times) bytes text x = (x.source, x.read, x.one_for_each_input)
 can Synth bytes text x = (x.table, x.read)
 can (Tabulate name window) bytes text x =

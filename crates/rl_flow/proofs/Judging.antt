@@ -26,7 +26,7 @@ use Rattle.rl_time.specs.declared.time.Time.{Time}
 use Rattle.rl_flow.specs.declared.source.Source.{Source}
 use Rattle.rl_flow.specs.declared.source.Source.TheVariants.{OfNetwork, OfTable}
 use Rattle.rl_flow.specs.Sources.{IsNoNetwork, SpellsSoundTable, BreaksTable, HasBadRows, IsNoTable, SpellsSource, IsNoSource}
-use Rattle.rl_flow.specs.Compiled.{NeedsManyBits}
+use Rattle.rl_flow.specs.Compiled.{HasFewBits, NeedsManyBits}
 use Rattle.rl_flow.specs.Values.{HasOtherInputs}
 use Rattle.rl_flow.specs.Windows.{output_place, HasNoTable, CanBeWritten, CannotBeWritten}
 use Rattle.verilog_text.specs.declared.rule.Rule.{Rule as ModuleRule}
@@ -192,6 +192,16 @@ reads_sources nets tables = record {
   not_both = no_source_fault nets tables;
 }
 
+-- ---- register bits
+
+one_bits_fault : OneEach NeedsManyBits
+one_bits_fault (OfNetwork n) f g x y = x.0 ∙ sym y.0
+one_bits_fault (OfTable t) f g x y = absurd x
+
+no_bits_fault : (s : Source) (f : Fault) → HasFewBits s → NeedsManyBits s f → ⊥
+no_bits_fault (OfNetwork n) f few many = omega (arith, few, many.1)
+no_bits_fault (OfTable t) f few many = many
+
 -- ---- windows
 
 abbrev pub OneWindowCause : Type 0
@@ -291,7 +301,7 @@ sources h = reads_sources h.networks h.tables
 pub one_fault : Readings → OneWindowCause →
     (task : Task) (bytes : List ℕ) (a b : Fault) → IsCause task bytes a → IsCause task bytes b → a ≡ b
 one_fault h windows Compile bytes a b x y =
-    one_staged SpellsSource IsNoSource NeedsManyBits (sources h) (λ s f g u v. u.0 ∙ sym v.0) bytes a b x y
+    one_staged SpellsSource IsNoSource NeedsManyBits (sources h) one_bits_fault bytes a b x y
 one_fault h windows (Eval times) bytes a b x y =
     one_staged SpellsSource IsNoSource (HasOtherInputs times) (sources h) (λ s f g u v. u.0 ∙ sym v.0) bytes a b x y
 one_fault h windows Synth bytes a b x y = h.tables.one_fault bytes a b x y
@@ -303,7 +313,7 @@ one_fault h windows (Sim cycles times) bytes a b x y =
 pub no_fault : Readings → NoWindowCause →
     (task : Task) (bytes : List ℕ) (a : Fault) → CanBeDone task bytes → IsCause task bytes a → ⊥
 no_fault h windows Compile bytes a s x =
-    no_staged SpellsSource IsNoSource NeedsManyBits (sources h) bytes s.0 a s.1 (λ much. absurd (let few = s.2 in let many = much.1 in omega (arith, few, many))) x
+    no_staged SpellsSource IsNoSource NeedsManyBits (sources h) bytes s.0 a s.1 (no_bits_fault s.0 a s.2) x
 no_fault h windows (Eval times) bytes a s x =
     no_staged SpellsSource IsNoSource (HasOtherInputs times) (sources h) bytes s.0 a s.1 (λ other. other.1 (sym s.2)) x
 no_fault h windows Synth bytes a s x = h.tables.not_both bytes s.0 a s.1 x

@@ -4,6 +4,7 @@ use Rattle.rl_time.specs.declared.time.Time.{Time}
 use Rattle.term_store.specs.declared.node.Node.{Node}
 use Rattle.term_store.specs.declared.node.Term.{Term}
 use Rattle.term_store.specs.Tree.{Tree}
+use Rattle.term_store.specs.Terms.{network_trees}
 use Rattle.term_store.specs.Trees.{plant, trees_at}
 use Rattle.term_store.specs.Subterms.{join_count, register_bits}
 use Rattle.minterm.specs.Minterms.{table_terms}
@@ -72,14 +73,20 @@ pub record IsModuleText (bytes text : List ℕ) : Type 0 where
   pub no_other : (m : Circuit) → SpellsModule text m → m ≡ compiled
   pub right : RealisesSource source compiled
 
--- the bytes spell a source that needs no more register bits than a module may have
+-- where the source is a network, it needs no more register bits than a module may have; no table needs more, by `table_terms_are_few`
+abbrev pub HasFewBits : Source → Type 0
+HasFewBits (OfNetwork n) = register_bits (network_trees n) ≤ 65536
+HasFewBits (OfTable t) = Unit {0}
+
+-- the bytes spell a table of sound rows, or a network that needs no more register bits than a module may have
 abbrev pub CanBeCompiled : List ℕ → Type 0
-CanBeCompiled bytes = (s : Source) × SpellsSource bytes s × (register_bits (terms_of s) ≤ 65536)
+CanBeCompiled bytes = (s : Source) × SpellsSource bytes s × HasFewBits s
 
--- the source needs more register bits than a module may have, and the fault tells how many
+-- the source is a network that needs more register bits than a module may have, and the fault tells how many
 abbrev pub NeedsManyBits : Source → Fault → Type 0
-NeedsManyBits s f = (f ≡ fault.TooManyBits (register_bits (terms_of s))) × (65536 < register_bits (terms_of s))
+NeedsManyBits (OfNetwork n) f = (f ≡ fault.TooManyBits (register_bits (network_trees n))) × (65536 < register_bits (network_trees n))
+NeedsManyBits (OfTable t) f = ⊥
 
--- the bytes spell no source, or one that needs more register bits than a module may have
+-- the bytes spell no source, or a network that needs more register bits than a module may have
 abbrev pub IsNotCompiled : List ℕ → Fault → Type 0
 IsNotCompiled bytes f = IsNoSource bytes f ⊎ ((s : Source) × SpellsSource bytes s × NeedsManyBits s f)

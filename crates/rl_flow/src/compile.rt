@@ -8,7 +8,8 @@ ghost use Rattle.func_table.specs.Sound.{AreSound};
 ghost use Rattle.minterm.specs.Minterms.{synthesised};
 ghost use Rattle.rl_flow.specs.declared.source.Source.TheVariants.{OfTable};
 ghost use Rattle.rl_flow.specs.Sources.{IsSound, IsRuled, inputs_of, outputs_of, terms_of, IsUnreadable};
-ghost use Rattle.rl_flow.specs.Compiled.{AreSourceGates, RealisesSource, IsCompiled, IsModuleText, IsNotCompiled};
+ghost use Rattle.rl_flow.specs.Compiled.{AreSourceGates, RealisesSource, IsCompiled, IsModuleText, NeedsManyBits, IsNotCompiled};
+ghost use Rattle.rl_flow.specs.declared.fault.Fault.TheVariants as fault;
 
 use crate::fault::Fault;
 use crate::reading::source_of;
@@ -31,23 +32,26 @@ pub fn alone(alloc: Global, name: &Name) -> Result<Vec<Name>, NoMemory>
     Ok(names)
 }
 
-/// The gates of a table: its term is planted in a store and lowered.
-fn lower_table(alloc: Global, t: &Table) -> Result<Gates, LowerError>
+/// The gates of a table: its term is planted in a store and lowered. No table needs more register
+/// bits than a module may have.
+fn lower_table(alloc: Global, t: &Table) -> Result<Gates, NoMemory>
     requires sound { AreSound t.now.rows }
     ensures gates { IfOk result (AreSourceGates (OfTable t.now)) }
     ensures timed { IfOk result (AreGatesOf t.now.inputs (t.now.output ∷ []) (synthesised t.now ∷ [])) }
     ensures wires { IfOk result (λ g. length g.gates ≡ join_count (synthesised t.now ∷ [])) }
     ensures bits { IfOk result (λ g. rules.register_bits g ≡ register_bits (synthesised t.now ∷ [])) }
     ensures few { OnOk result (register_bits (synthesised t.now ∷ []) ≤ 65536) }
-    ensures too_many { (bits : ℕ) → result ≡ Err (TooManyBits bits) →
-        (bits ≡ register_bits (synthesised t.now ∷ [])) × (65536 < bits) }
 {
     t.rules();
     table_names_are_ports();
     let mut store = Store::new(alloc)?;
     let root = synth(alloc, t, &mut store)?;
     let outputs = alone(alloc, t.output())?;
-    lower(alloc, &store, &[root], t.inputs(), &outputs)
+    match lower(alloc, &store, &[root], t.inputs(), &outputs) {
+        Ok(gates) => Ok(gates),
+        Err(LowerError::TooManyBits(_)) => unreachable!(),
+        Err(LowerError::NoMemory) => Err(NoMemory),
+    }
 }
 
 /// The gates of a source.
@@ -58,12 +62,11 @@ fn gates_of(alloc: Global, source: &Source) -> Result<Gates, LowerError>
     ensures wires { IfOk result (λ g. length g.gates ≡ join_count (terms_of source.now)) }
     ensures bits { IfOk result (λ g. rules.register_bits g ≡ register_bits (terms_of source.now)) }
     ensures few { OnOk result (register_bits (terms_of source.now) ≤ 65536) }
-    ensures too_many { (bits : ℕ) → result ≡ Err (TooManyBits bits) →
-        (bits ≡ register_bits (terms_of source.now)) × (65536 < bits) }
+    ensures too_many { (bits : ℕ) → result ≡ Err (TooManyBits bits) → NeedsManyBits source.now (fault.TooManyBits bits) }
 {
     match source {
         Source::OfNetwork(n) => lower_network(alloc, n),
-        Source::OfTable(t) => lower_table(alloc, t),
+        Source::OfTable(t) => Ok(lower_table(alloc, t)?),
     }
 }
 
@@ -83,8 +86,7 @@ fn module_of(alloc: Global, source: &Source) -> Result<Module, LowerError>
     ensures right { IfOk result (RealisesSource source.now) }
     ensures shallow { IfOk result IsShallow }
     ensures few { IfOk result (λ m. register_bits (terms_of source.now) ≤ 65536) }
-    ensures too_many { (bits : ℕ) → result ≡ Err (TooManyBits bits) →
-        (bits ≡ register_bits (terms_of source.now)) × (65536 < bits) }
+    ensures too_many { (bits : ℕ) → result ≡ Err (TooManyBits bits) → NeedsManyBits source.now (fault.TooManyBits bits) }
 {
     terms_have_the_networks_values();
     the_term_has_the_tables_values();

@@ -11,7 +11,7 @@ pub enum Fault {
     Rows(RowFault),
     /// The text is no module: the rule that it breaks first, and the line, from 1 (E70 to E74).
     Module(verilog_text::Rule, u32),
-    /// The terms need so many register bits, more than 65,536 (E20).
+    /// The terms of a network need so many register bits, more than 65,536 (E20).
     TooManyBits(u64),
     /// There are so many inputs, and not so many times are given (E51).
     Inputs(u64),
