@@ -2,9 +2,8 @@ ghost use Rattle.std.specs.Prelude.{◌≡◌, ◌≢◌, ◌≤◌, ◌++◌, �
 ghost use Rattle.net_lang.specs.Rules.{names_of};
 ghost use Rattle.net_lang.specs.Value.{space_time_function};
 ghost use Rattle.spike_eval.specs.Early.{AreEarly};
-ghost use Rattle.func_table.specs.Sound.{AreSound};
 ghost use Rattle.func_table.specs.Function.{table_function};
-ghost use Rattle.rl_flow.specs.Sources.{IsSound, inputs_of, outputs_of, function_of, IsUnreadable};
+ghost use Rattle.rl_flow.specs.Sources.{inputs_of, outputs_of, function_of, IsUnreadable};
 ghost use Rattle.rl_flow.specs.Values.{value_line, value_lines, HasOtherInputs, IsValueText, IsNotValued};
 
 use crate::fault::Fault;
@@ -53,7 +52,6 @@ fn network_lines(alloc: Global, n: &Network, times: &[Time]) -> Result<Vec<u8>, 
 
 /// The line of a table's output at these times of its inputs.
 fn table_line(alloc: Global, t: &Table, times: &[Time]) -> Result<Vec<u8>, NoMemory>
-    requires sound { AreSound t.now.rows }
     requires early { AreEarly times.now }
     requires one_for_each_input { length times.now ≡ length t.now.inputs }
     ensures { IfOk result (λ text. text.items ≡ value_lines (t.now.output ∷ []) (table_function t.now.rows times.now ∷ [])) }
@@ -75,7 +73,6 @@ fn input_count(source: &Source) -> usize
 
 /// The lines of a source's outputs at times of its inputs.
 fn lines_of(alloc: Global, source: &Source, times: &[Time]) -> Result<Vec<u8>, NoMemory>
-    requires sound { IsSound source.now }
     requires early { AreEarly times.now }
     requires one_for_each_input { length times.now ≡ length (inputs_of source.now) }
     ensures { IfOk result (λ text. text.items ≡ value_lines (outputs_of source.now) (function_of source.now times.now)) }

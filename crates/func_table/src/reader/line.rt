@@ -2,7 +2,7 @@
 ghost use Rattle.std.specs.Prelude.{◌≡◌, ◌≢◌, [], true, map};
 ghost use Rattle.rl_text.specs.Words.{words, line};
 ghost use Rattle.func_table.specs.Forms.{Header, Inputs, Output, Entries, IsFormed};
-ghost use Rattle.func_table.specs.LineRules.{allows, inputs_break, output_breaks};
+ghost use Rattle.func_table.specs.LineRules.{allows, inputs_break};
 ghost use Rattle.func_table.specs.Outcome.{error_of};
 ghost use Rattle.func_table.specs.Draft.{written_entry, form, IsDraft, Judges, IsJudged, IsWhole};
 
