@@ -1,10 +1,10 @@
 -- What the lines of a text say of the text.
-use Rattle.std.proofs.Common.{◌≡◌, ℕ, true, List, length, take, ap, subst, ◌∙◌, arith, inl, inr}
-use Rattle.std.specs.Prelude.{◌⊎◌, Result, Ok, Err, IfOk, IfErr}
+use Rattle.std.proofs.Common.{◌≡◌, ℕ, true, List, length, take, ap, subst, ◌∙◌, arith, inr}
+use Rattle.std.specs.Prelude.{Result, Ok, Err, IfOk, IfErr}
 use Rattle.std.proofs.lemmas.List.{take_all}
 use Rattle.rl_text.specs.declared.token.Token.{Token}
 use Rattle.rl_text.specs.declared.token.Style.TheVariants as style
-use Rattle.rl_text.specs.Tokens.{line_behind, AreTokens, IsBad}
+use Rattle.rl_text.specs.Tokens.{line_behind, AreTokens}
 use Rattle.rl_text.specs.Lines.{Line, lines}
 use Rattle.func_table.specs.declared.reader.rules.Rule.{Rule}
 use Rattle.func_table.specs.declared.reader.rules.Rule.TheVariants as rule
@@ -12,7 +12,7 @@ use Rattle.func_table.specs.declared.reader.error.TableError.{TableError}
 use Rattle.func_table.specs.declared.reader.error.TableError.TheVariants as error
 use Rattle.func_table.specs.Table.{Table}
 use Rattle.func_table.specs.LineRules.{SoFar, nothing_yet}
-use Rattle.func_table.specs.Spelling.{may_end, AllStand, FirstBroken, SpellsTable, HasBadByte, BreaksFirst}
+use Rattle.func_table.specs.Spelling.{may_end, AllStand, FirstBroken, SpellsTable, BreaksFirst}
 use Rattle.func_table.specs.Outcome.{Names, IsCause}
 use Rattle.func_table.specs.Draft.{IsWhole}
 
@@ -38,9 +38,6 @@ cause_of : (text : List ℕ) (ts : List Token) (ls : List Line) (end : ℕ) → 
 cause_of text ts ls end a e g (error.Syntax n) b = inr (breaks text ts ls end a e g rule.Syntax n b)
 cause_of text ts ls end a e g (error.Count n) b = breaks text ts ls end a e g rule.Count n b
 cause_of text ts ls end a e g error.NoMemory b = tt
-
-pub bad_cause : (text : List ℕ) (place line : ℕ) → IsBad style.Race text place → line ≡ line_behind (take place text) → HasBadByte text line ⊎ BreaksFirst text rule.Syntax line
-bad_cause text place line b e = inl (record { place = place; bad = b; number = e })
 
 -- what is said of the lines is said of their text
 pub of_text : (text : List ℕ) (ts : List Token) (ls : List Line) (end : ℕ) → AreTokens style.Race text ts → ls ≡ lines text ts → end ≡ line_behind text → (r : Result Table TableError) → IsWhole ls end r → IfOk r (SpellsTable text) × IfErr r (IsCause text)

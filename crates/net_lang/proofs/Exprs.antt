@@ -149,7 +149,3 @@ expr-spelled zero (Inc a m) r h n = absurd (omega (arith, n))
 expr-spelled (suc d) (Inc a m) r h n =
     ap (expr_at (suc d)) (one (name (codes "inc")) (number m) (spelled a) r)
     ∙ ap (λ o. o >>= λ y. Some (Inc y.0 y.1, y.2)) (delay_again (expr_at d) a m r (spelled a) (expr-spelled d a (comma ∷ number m ∷ close ∷ r) h.0 (omega (arith, n))) h.1)
-
--- words are read exactly as what they spell
-pub expr_again : (d : ℕ) (ws : List Word) (t : Expression) (r : List Word) → Spells d ws t r → expr_at d ws ≡ Some (t, r)
-expr_again d ws t r s = ap (expr_at d) s.words ∙ expr-spelled d t r s.written s.nested

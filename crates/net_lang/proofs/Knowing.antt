@@ -200,10 +200,6 @@ pub or_false : (b : Bool) → (b || false) ≡ b
 or_false true = refl
 or_false false = refl
 
-or_true : (b : Bool) → (b || (true || false)) ≡ true
-or_true true = refl
-or_true false = refl
-
 -- a name is declared nowhere
 pub record IsNew (n : Net) (t : List ℕ) : Type 0 where
   pub inputs : list_any (bytes_eq t) n.inputs ≡ false

@@ -32,7 +32,3 @@ none_more before ws i d lt h = ap (λ (x : List Word). with_names before (names_
 pub all_done : (before : List (List ℕ)) (ws : List source.Word) (i : ℕ) → length ws ≤ i → with_names before (names_at (words (drop i ws))) ≡ Some before
 unfolding names_at
 all_done before ws i h = ap (λ (x : List source.Word). with_names before (names_at (words x))) (drop_of_length-le ws h) ∙ ap (λ (x : List (List ℕ)). Some x) (append-nil before)
-
-pub with_names-nil : (r : Option (List (List ℕ))) → with_names [] r ≡ r
-with_names-nil (Some ns) = refl
-with_names-nil None = refl

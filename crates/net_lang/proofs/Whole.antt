@@ -1,8 +1,8 @@
 -- What the lines of a text say of the text.
-use Rattle.std.proofs.Common.{◌≡◌, ℕ, ◌+◌, ◌≤◌, ◌<◌, ◌^◌, Bool, true, false, List, [], ◌∷◌, ◌++◌, length, map, take, Option, Some, None, refl, ap, subst, ◌∙◌, arith, inl, inr}
-use Rattle.std.specs.Prelude.{flat_map, ◌⊎◌}
+use Rattle.std.proofs.Common.{◌≡◌, ℕ, ◌+◌, ◌≤◌, ◌<◌, ◌^◌, Bool, true, false, List, [], ◌∷◌, ◌++◌, length, map, Option, Some, None, refl, ap, subst, arith}
+use Rattle.std.specs.Prelude.{flat_map}
 use Rattle.std.specs.List.{slice_split}
-use Rattle.std.proofs.lemmas.List.{length-append, length-map, take_all}
+use Rattle.std.proofs.lemmas.List.{length-append, length-map}
 use Rattle.std.proofs.lemmas.List.Splits.{length-slice_split}
 use Rattle.std.proofs.lemmas.List.Sums.{count_by-le-length}
 use Rattle.rl_text.specs.declared.words.Line as source
@@ -11,22 +11,14 @@ use Rattle.rl_text.specs.declared.token.Kind.TheVariants as kind
 use Rattle.rl_text.specs.declared.token.Token.{Token}
 use Rattle.rl_text.specs.declared.token.Style.TheVariants as style
 use Rattle.rl_text.specs.Pieces.{Piece, is_piece, joined, AreLongest}
-use Rattle.rl_text.specs.Tokens.{with_token, tokens_of, line_behind, AreTokens, IsBad}
+use Rattle.rl_text.specs.Tokens.{with_token, tokens_of, AreTokens}
 use Rattle.rl_text.specs.Lines.{Line, line_of, lines, ends_line}
 use Rattle.rl_text.specs.Words.{line}
-use Rattle.net_lang.specs.declared.reader.rules.Rule.{Rule}
-use Rattle.net_lang.specs.declared.reader.rules.Rule.TheVariants as rule
-use Rattle.net_lang.specs.declared.reader.rules.Stage.{Stage}
-use Rattle.net_lang.specs.declared.reader.rules.Stage.TheVariants as stage
-use Rattle.net_lang.specs.declared.reader.error.NetError.{NetError}
-use Rattle.net_lang.specs.declared.reader.error.NetError.TheVariants as error
 use Rattle.net_lang.specs.declared.reader.draft.Draft as kept
 use Rattle.net_lang.specs.Formula.{Net}
-use Rattle.net_lang.specs.Rules.{IsNetwork}
 use Rattle.net_lang.specs.LineRules.{nothing_yet}
-use Rattle.net_lang.specs.Spelling.{may_end, AllStand, FirstBroken, SpellsNetwork, HasBadByte, BreaksFirst}
-use Rattle.net_lang.specs.Draft.{net_of, so_far, HasParts, IsDraft}
-use Rattle.net_lang.specs.Outcome.{Names, IsCause}
+use Rattle.net_lang.specs.Spelling.{may_end, AllStand, SpellsNetwork}
+use Rattle.net_lang.specs.Draft.{net_of, so_far}
 
 -- ---- a text has few lines
 
@@ -86,36 +78,7 @@ few_lines text ts all a e h =
     let i = length-map all line in
     omega (arith, b, c, d, f, g, i, h)
 
--- ---- a draft that may end is a network
-
-at_outputs : (s : Stage) → may_end s ≡ true → s ≡ stage.Outputs
-at_outputs stage.Start e = absurd cc
-at_outputs stage.Header e = absurd cc
-at_outputs stage.Inputs e = absurd cc
-at_outputs stage.Lets e = absurd cc
-at_outputs stage.Outputs e = refl
-
-pub is_network : (d : kept.Draft) → IsDraft d → may_end d.stage ≡ true → IsNetwork (net_of d)
-is_network d h e =
-    let p : HasParts stage.Outputs (net_of d) = subst (λ (s : Stage). HasParts s (net_of d)) (at_outputs d.stage e) h.parts in
-    let s = h.sound in
-    record {
-      some_input = p.0;
-      few_inputs = s.few_inputs;
-      some_output = p.1;
-      few_outputs = s.few_outputs;
-      input_names = s.input_names;
-      let_names = s.let_names;
-      output_names = s.output_names;
-      distinct = s.distinct;
-      lets_over = s.lets_over;
-      outputs_over = s.outputs_over;
-      few_joins = s.few_joins;
-      few_delays = s.few_delays;
-      shallow = s.shallow;
-      short_lets = s.short_lets;
-      short_outputs = s.short_outputs;
-    }
+-- ---- the text spells the network
 
 pub spells : (text : List ℕ) (ts : List Token) (all : List source.Line) (d : kept.Draft) (n : Net) → AreTokens style.Race text ts → map line all ≡ lines text ts → AllStand nothing_yet (map line all) (so_far d) → may_end d.stage ≡ true → n ≡ net_of d → SpellsNetwork text n
 spells text ts all d n a e stand end is = record {
@@ -126,23 +89,3 @@ spells text ts all d n a e stand end is = record {
   ends = end;
   network = is;
 }
-
--- ---- the cause of an error
-
-pub end_line : (text : List ℕ) (end : ℕ) → end ≡ line_behind (take (length text) text) → end ≡ line_behind text
-end_line text end e = e ∙ ap line_behind (take_all (length text) text (omega arith))
-
-breaks : (text : List ℕ) (ts : List Token) (ls : List Line) (end : ℕ) → AreTokens style.Race text ts → ls ≡ lines text ts → end ≡ line_behind text → (r : Rule) (n : ℕ) → FirstBroken nothing_yet ls end r n → BreaksFirst text r n
-breaks text ts ls end a e g r n b = record { tokens = ts; lexed = a; first = subst (λ (k : ℕ). FirstBroken nothing_yet (lines text ts) k r n) g (subst (λ (l : List Line). FirstBroken nothing_yet l end r n) e b) }
-
-pub cause_of : (text : List ℕ) (ts : List Token) (ls : List Line) (end : ℕ) → AreTokens style.Race text ts → ls ≡ lines text ts → end ≡ line_behind text → (x : NetError) → Names x (FirstBroken nothing_yet ls end) → IsCause text x
-cause_of text ts ls end a e g (error.Syntax n) b = inr (breaks text ts ls end a e g rule.Syntax n b)
-cause_of text ts ls end a e g (error.Name n) b = breaks text ts ls end a e g rule.Name n b
-cause_of text ts ls end a e g (error.Span n) b = breaks text ts ls end a e g rule.Span n b
-cause_of text ts ls end a e g (error.Doubled n) b = breaks text ts ls end a e g rule.Doubled n b
-cause_of text ts ls end a e g (error.Unknown n) b = breaks text ts ls end a e g rule.Unknown n b
-cause_of text ts ls end a e g (error.Count n) b = breaks text ts ls end a e g rule.Count n b
-cause_of text ts ls end a e g error.NoMemory b = tt
-
-pub bad_cause : (text : List ℕ) (place line : ℕ) → IsBad style.Race text place → line ≡ line_behind (take place text) → HasBadByte text line ⊎ BreaksFirst text rule.Syntax line
-bad_cause text place line b e = inl (record { place = place; bad = b; number = e })

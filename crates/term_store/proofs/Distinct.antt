@@ -6,7 +6,6 @@ use Rattle.std.proofs.lemmas.List.{take-append-drop, drop_more, append_assoc}
 use Rattle.std.proofs.lemmas.List.Sums.{passes_at_first, fails_before_first}
 use Rattle.term_store.specs.Tree.{Tree}
 use Rattle.term_store.specs.Terms.{tree_in}
-use Rattle.term_store.specs.declared.node.Term.{Term}
 use Rattle.term_store.specs.declared.node.Node.{Node}
 use Rattle.term_store.specs.declared.node.Node.TheVariants as node
 use Rattle.term_store.specs.Nodes.{node_at, same_node, place_of, IsNodeOver, IsNodes}
@@ -36,10 +35,6 @@ tree_is ns i s h =
     ∙ tree_prefix (front ++ n ∷ []) (drop (i + 1) ns) i (omega (arith, len, length-append front (n ∷ [])))
     ∙ subst (λ k. tree (front ++ n ∷ []) k ≡ node_tree (trees front) n) len (tree_last front n)
     ∙ over_agree i (trees front) (trees ns) n (s.lower i h) (λ k b. first_trees ns i k h b)
-
--- a place is its index
-index_is : (a b : Term) (c d : ℕ) → a.0 ≡ b.0 → c ≡ d → node.Inc a c ≡ node.Inc b d
-index_is a b c d e f = let p = one_term a b e in cc
 
 -- nodes over distinct trees have different trees
 pub over_inj : (ts : List Tree) (k m : ℕ) (n o : Node) → IsNodeOver k n → IsNodeOver m o → ((a b : ℕ) → a < k → b < m → tree_in ts a ≡ tree_in ts b → a ≡ b)

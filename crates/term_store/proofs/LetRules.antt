@@ -97,10 +97,6 @@ body_shallow ns f (node.Max a b) = omega (arith, named_flat (node_at ns a.0) (f 
 body_shallow ns f (node.Lt a b) = omega (arith, named_flat (node_at ns a.0) (f a.0), named_flat (node_at ns b.0) (f b.0))
 body_shallow ns f (node.Inc a c) = omega (arith, named_flat (node_at ns a.0) (f a.0))
 
-places_shallow : (ns : List Node) (r : ℕ → Bool) (ps : List ℕ) → AllByRecursion (λ e. nesting e.body ≤ 64) (map (let_at ns r) ps)
-places_shallow ns r [] = tt
-places_shallow ns r (p ∷ ps) = (body_shallow ns (let_number ns r) (node_at ns p), places_shallow ns r ps)
-
 pub shallow : (ns : List Node) (r : ℕ → Bool) (f : ℕ → ℕ) (ps : List ℕ) (roots : List Term) (names : List (List ℕ)) → AllByRecursion (λ e. nesting e.body ≤ 64) (map (let_at ns r) ps ++ root_outputs ns f roots names)
 shallow ns r f [] [] names = tt
 shallow ns r f [] (root ∷ roots) [] = tt

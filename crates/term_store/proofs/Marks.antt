@@ -1,15 +1,18 @@
 -- The marks of what roots reach.
-use Rattle.std.proofs.Common.{◌≡◌, ℕ, zero, suc, ◌<◌, ◌≤◌, ◌+◌, refl, subst, arith, sym, ◌∙◌, Bool, true, false, length, List, [], ◌∷◌, ◌-◌, slice_set, ◌⊎◌, inl, inr}
+use Rattle.std.proofs.Common.{◌≡◌, ℕ, zero, suc, ◌<◌, ◌≤◌, ◌+◌, refl, subst, arith, sym, ap, ◌∙◌, Bool, true, false, ◌||◌, eqb, length, List, [], ◌∷◌, ◌++◌, ◌-◌, take, slice_set, ◌⊎◌, inl, inr}
 use Rattle.std.specs.List.{All, slice_index_or}
+use Rattle.std.proofs.lemmas.List.{take_more}
+use Rattle.std.proofs.lemmas.List.Folds.{list_any-append}
+use Rattle.std.proofs.lemmas.Bool.Decides.{eqb_tells}
 use Rattle.std.proofs.lemmas.Grind.{common_steps}
-use Rattle.std.proofs.lemmas.Bool.{cases_lt}
+use Rattle.std.proofs.lemmas.Bool.{cases_lt, or_cases, or_left, or_right, eqb-true, eq-eqb}
 use Rattle.term_store.specs.Tree.{Tree, Never, Input, Min, Max, Lt, Inc}
 use Rattle.term_store.specs.declared.node.Term.{Term}
 use Rattle.term_store.specs.declared.node.Node.{Node}
 use Rattle.term_store.specs.declared.node.Node.TheVariants as node
 use Rattle.term_store.specs.Nodes.{node_at, IsNodeOver, IsNodes}
 use Rattle.term_store.specs.Trees.{tree, trees, node_tree, term, trees_at}
-use Rattle.term_store.specs.Reach.{IsOperand, IsReached, AreLeastClosed}
+use Rattle.term_store.specs.Reach.{is_root, IsOperand, IsReached, AreLeastClosed}
 use Rattle.term_store.proofs.Parts.{IsIn, in_self, in_trans, among_all, all_among}
 use Rattle.term_store.proofs.Distinct.{tree_is, distinct_trees}
 
@@ -17,10 +20,9 @@ abbrev pub marked : List Bool → ℕ → Type 0
 marked ms k = slice_index_or ms k false ≡ true
 
 -- the marks after the first roots
-pub record AreRootMarks (ns : List Node) (roots : List Term) (n : ℕ) (ms : List Bool) : Type 0 where
-  pub len : length ms ≡ length ns
-  pub sound : (k : ℕ) → k < length ns → marked ms k → IsReached ns roots k
-  pub roots_marked : (k : ℕ) (r : Term) → k < n → k < length roots → marked ms (slice_index_or roots k r).0
+pub record AreRootMarks (len : ℕ) (roots : List Term) (n : ℕ) (ms : List Bool) : Type 0 where
+  pub len_is : length ms ≡ len
+  pub marks : (k : ℕ) → k < len → slice_index_or ms k false ≡ is_root (take n roots) k
 
 -- the marks, once the places from `at` on have marked their operands
 pub record AreMarks (ns : List Node) (roots : List Term) (at : ℕ) (ms : List Bool) : Type 0 where
@@ -144,27 +146,9 @@ complete ns ms (Inc a d) r i s c h hi e m g = elim g [
   | inr k ↦ in_Inc ns ms a d r i (node_at ns r) s c h m refl (sym (tree_is ns r s h) ∙ e) (λ q hq eq mq gq. complete ns ms a q i s c hq hi eq mq gq) k
 ]
 
-eq_or_ne : (a b : ℕ) → (a ≡ b) ⊎ (a ≡ b → ⊥)
-eq_or_ne a b = elim (cases_lt a b) [
-  | inl h ↦ inr (λ e. omega arith)
-  | inr h ↦ elim (cases_lt b a) [ inl k ↦ inr (λ e. omega arith) | inr k ↦ inl (omega arith) ]
-]
-
 -- what one write marks
-set_in : (ms : List Bool) (r k : ℕ) → r < length ms → marked (slice_set ms r true) k → marked ms k ⊎ (k ≡ r)
-set_in ms r k h m = elim (eq_or_ne k r) [
-  | inl e ↦ inr e
-  | inr n ↦ inl (grind (arith, common_steps))
-]
-
 set_new : (ms : List Bool) (r : ℕ) → r < length ms → marked (slice_set ms r true) r
 set_new ms r h = grind (arith, common_steps)
-
-set_old : (ms : List Bool) (r k : ℕ) → r < length ms → marked ms k → marked (slice_set ms r true) k
-set_old ms r k h m = elim (eq_or_ne k r) [
-  | inl e ↦ subst (marked (slice_set ms r true)) (sym e) (set_new ms r h)
-  | inr n ↦ grind (arith, common_steps)
-]
 
 operand_lower : (m k : ℕ) (n : Node) → IsNodeOver m n → IsOperand k n → k < m
 operand_lower m k (node.Input i) o h = absurd h
@@ -174,29 +158,52 @@ operand_lower m k (node.Max a b) o h = elim h [ inl e ↦ omega (arith, o.0) | i
 operand_lower m k (node.Lt a b) o h = elim h [ inl e ↦ omega (arith, o.0) | inr e ↦ omega (arith, o.1) ]
 operand_lower m k (node.Inc a c) o h = omega (arith, o.0)
 
-any_default : (rs : List Term) (i : ℕ) (d x : Term) → i < length rs → slice_index_or rs i x ≡ slice_index_or rs i d
-any_default [] i d x h = absurd (omega arith)
-any_default (r ∷ rs) zero d x h = refl
-any_default (r ∷ rs) (suc i) d x h = any_default rs i d x (omega arith)
+or_nothing : (b : Bool) → (b || false) ≡ b
+or_nothing true = refl
+or_nothing false = refl
+
+root_last : (xs : List Term) (r : Term) (k : ℕ) → is_root (xs ++ r ∷ []) k ≡ (is_root xs k || eqb r.0 k)
+root_last xs r k = list_any-append (λ (x : Term). eqb x.0 k) xs (r ∷ []) ∙ ap (λ b. is_root xs k || b) (or_nothing (eqb r.0 k))
+
+-- a place after one more is marked
+set_marks : (ms : List Bool) (r k : ℕ) (b : Bool) → r < length ms → slice_index_or ms k false ≡ b → slice_index_or (slice_set ms r true) k false ≡ (b || eqb r k)
+set_marks ms r k b h e = elim (eqb_tells r k) [
+  | inl t ↦ subst (marked (slice_set ms r true)) t.1 (set_new ms r h) ∙ sym (or_right b (eqb r k) t.0)
+  | inr f ↦ (let n = f.1 in let same : slice_index_or (slice_set ms r true) k false ≡ slice_index_or ms k false = grind (arith, common_steps) in same ∙ e ∙ sym (ap (λ x. b || x) f.0 ∙ or_nothing b))
+]
 
 -- one root more
-pub root_more : (ns : List Node) (roots : List Term) (ms : List Bool) (i : ℕ) (d : Term) → i < length roots → (slice_index_or roots i d).0 < length ns → AreRootMarks ns roots i ms
-    → AreRootMarks ns roots (i + 1) (slice_set ms (slice_index_or roots i d).0 true)
-root_more ns roots ms i d h w p =
+pub root_more : (len : ℕ) (roots : List Term) (ms : List Bool) (i : ℕ) (d : Term) → i < length roots → (slice_index_or roots i d).0 < len → AreRootMarks len roots i ms
+    → AreRootMarks len roots (i + 1) (slice_set ms (slice_index_or roots i d).0 true)
+root_more len roots ms i d h w p =
     let r = slice_index_or roots i d in
-    let wm : r.0 < length ms = omega (arith, p.len) in
+    let wm : r.0 < length ms = omega (arith, w, p.len_is) in
     record {
-      len = grind (arith, common_steps, p.len);
-      sound = λ k hk m. elim (set_in ms r.0 k wm m) [
-        | inl o ↦ p.sound k hk o
-        | inr e ↦ reached_from ns roots k i d h (subst (λ j. IsIn (tree ns k) (tree ns j)) e (in_self (tree ns k)))
-      ];
-      roots_marked = λ k x hk hr. elim (cases_lt k i) [
-        | inl b ↦ set_old ms r.0 _ wm (p.roots_marked k x b hr)
-        | inr b ↦ (let e : k ≡ i = omega arith in subst (λ j. marked (slice_set ms r.0 true) (slice_index_or roots j x).0) (sym e)
-            (subst (λ q. marked (slice_set ms r.0 true) q.0) (sym (any_default roots i d x h)) (set_new ms r.0 wm)))
-      ];
+      len_is = grind (arith, common_steps, p.len_is);
+      marks = λ k hk. set_marks ms r.0 k (is_root (take i roots) k) wm (p.marks k hk) ∙ sym (ap (λ rs. is_root rs k) (take_more roots i d h) ∙ root_last (take i roots) r k);
     }
+
+root_at : (roots : List Term) (k : ℕ) → is_root roots k ≡ true → (i : ℕ) × (i < length roots) × ((slice_index_or roots i (term 0)).0 ≡ k)
+root_at [] k h = absurd cc
+root_at (r ∷ roots) k h = elim (or_cases (eqb r.0 k) (is_root roots k) h) [
+  | inl e ↦ (0, omega arith, eqb-true r.0 k e)
+  | inr g ↦ let f = root_at roots k g in (suc f.0, omega (arith, f.1), f.2)
+]
+
+is_root_at : (roots : List Term) (i : ℕ) (d : Term) → i < length roots → is_root roots (slice_index_or roots i d).0 ≡ true
+is_root_at [] i d h = absurd (omega (arith, h))
+is_root_at (r ∷ roots) zero d h = or_left (eqb r.0 r.0) (is_root roots r.0) (eq-eqb r.0 r.0 refl)
+is_root_at (r ∷ roots) (suc i) d h = or_right (eqb r.0 (slice_index_or roots i d).0) (is_root roots (slice_index_or roots i d).0) (is_root_at roots i d (omega (arith, h)))
+
+-- the roots alone are marked, and no place has marked its operands
+pub marks_begin : (ns : List Node) (roots : List Term) (len : ℕ) (ms : List Bool) → len ≡ length ns → All (λ t. t.0 < length ns) roots → length ms ≡ len → ((k : ℕ) → k < len → slice_index_or ms k false ≡ is_root roots k)
+    → AreMarks ns roots len ms
+marks_begin ns roots len ms e w l is = record {
+  len = l ∙ e;
+  sound = λ k hk m. let f = root_at roots k (sym (is k (omega (arith, hk, e))) ∙ m) in reached_from ns roots k f.0 (term 0) f.1 (subst (λ j. IsIn (tree ns k) (tree ns j)) (sym f.2) (in_self (tree ns k)));
+  roots_marked = λ k r h. is (slice_index_or roots k r).0 (let b = w k r h in omega (arith, b, e)) ∙ is_root_at roots k r h;
+  closed = λ j k low hj m o. absurd (omega (arith, low, hj, e));
+}
 
 -- the operands of one place more
 pub operands_more : (ns : List Node) (roots : List Term) (at : ℕ) (ms ks : List Bool) (n : Node) → IsNodes ns → 0 < at → at ≤ length ns → AreMarks ns roots at ms → marked ms (at - 1) → n ≡ node_at ns (at - 1) → length ks ≡ length ms

@@ -73,10 +73,6 @@ found ns n i e =
       | inr h ↦ let k : Some i ≡ None = grind (arith, nat_tests, f) in cc
     ]
 
--- a node that was not found
-pub not_found : (ns : List Node) (n : Node) → false ≡ list_any (eq-value.it n) ns → holds ns n ≡ false
-not_found ns n e = ap (λ p. list_any p ns) (sym (eq_at n)) ∙ sym e
-
 -- a new node goes last
 pub with_new : (ns : List Node) (n : Node) → holds ns n ≡ false → with_node ns n ≡ ns ++ n ∷ []
 with_new ns n e = ap (λ b. if b then ns else ns ++ n ∷ []) e

@@ -78,23 +78,6 @@ room_one old new n e h = let one = cost_small old.nodes n in
       memory = omega (arith, h, one, less, c);
     }
 
-pub room_held : (old new : Contents) (n : Node) → holds old.nodes n ≡ true → new.nodes ≡ with_node old.nodes n → old.spare ≤ new.spare + cost old.nodes n → TakesRoom old new 0
-room_held old new n held e h = let none = cost_held old.nodes n held in
-    let less = cost_with old.nodes n node.Never in
-    let c : cost new.nodes node.Never ≡ cost (with_node old.nodes n) node.Never = ap (λ ns. cost ns node.Never) e in
-    record {
-      places = omega (arith, ap length e, length_with old.nodes n, none, less, c);
-      memory = omega (arith, h, none, less, c);
-    }
-
-pub room_never : (old new : Contents) → new.nodes ≡ with_node old.nodes node.Never → old.spare ≤ new.spare + cost old.nodes node.Never → TakesRoom old new 0
-room_never old new e h =
-    let none : cost new.nodes node.Never ≡ 0 = cost_held new.nodes node.Never (ap (λ ns. holds ns node.Never) e ∙ holds_it old.nodes node.Never) in
-    record {
-      places = omega (arith, ap length e, length_with old.nodes node.Never, none);
-      memory = omega (arith, h, none);
-    }
-
 -- one after the other
 pub room_then : (a b c : Contents) (j k : ℕ) → TakesRoom a b j → TakesRoom b c k → TakesRoom a c (j + k)
 room_then a b c j k p q = record { places = omega (arith, p.places, q.places); memory = omega (arith, p.memory, q.memory) }

@@ -1,5 +1,5 @@
 -- Planting one tree after another.
-use Rattle.std.proofs.Common.{◌≡◌, ℕ, zero, suc, ◌<◌, ◌≤◌, ◌+◌, refl, ap, subst, arith, sym, ◌∙◌, length, List, [], ◌∷◌, ◌++◌, append-nil, map, take, add-one, true, inl, inr}
+use Rattle.std.proofs.Common.{◌≡◌, ℕ, zero, suc, ◌<◌, ◌≤◌, ◌+◌, refl, ap, subst, arith, sym, ◌∙◌, length, List, [], ◌∷◌, ◌++◌, map, take, add-one, true, inl, inr}
 use Rattle.std.specs.List.{All, slice_index_or}
 use Rattle.std.proofs.lemmas.Grind.{common_steps}
 use Rattle.std.proofs.lemmas.Bool.{cases_lt}
@@ -17,15 +17,6 @@ use Rattle.term_store.specs.Planting.{cost, operators, all_operators, HasRoom, T
 use Rattle.term_store.proofs.Put.{put_leaf, within_more, same_trees, prefix_then}
 use Rattle.term_store.proofs.Room.{room_after, room_then, holds_it, holds_with}
 use Rattle.term_store.proofs.Ready.{ready_more}
-
-pub run_none : (ns : List Node) → IsNodes ns → ArePlanted ns ns [] []
-run_none ns s = record {
-  is_nodes = s;
-  grown = ([], sym (append-nil ns));
-  nodes_are = refl;
-  within = λ k d h. absurd (omega arith);
-  trees_are = refl;
-}
 
 trees-append : (ns : List Node) (rs : List Term) (r : Term) → trees_at ns (rs ++ r ∷ []) ≡ trees_at ns rs ++ tree ns r.0 ∷ []
 trees-append ns rs r = grind (arith, common_steps)

@@ -1,6 +1,6 @@
 -- What roots reach: themselves, the operands of their nodes, the operands of those, and so on.
-use Rattle.std.specs.Prelude.{◌≡◌, ℕ, ◌<◌, ◌⊎◌, Bool, true, IsTrue, List, length}
-use Rattle.std.specs.List.{All}
+use Rattle.std.specs.Prelude.{◌≡◌, ℕ, ◌<◌, ◌⊎◌, ◌==◌, Bool, true, IsTrue, List, length}
+use Rattle.std.specs.List.{All, list_any}
 use Rattle.term_store.specs.declared.node.Term.{Term}
 use Rattle.term_store.specs.declared.node.Node.{Node}
 use Rattle.term_store.specs.declared.node.Node.TheVariants.{Input, Never, Min, Max, Lt, Inc}
@@ -15,6 +15,10 @@ is_reached nodes roots place = is_among (tree nodes place) (all_subterms (trees_
 -- the roots reach the place
 abbrev pub IsReached : List Node → List Term → ℕ → Type 0
 IsReached nodes roots place = IsTrue (is_reached nodes roots place)
+
+-- the place is one of the roots
+abbrev pub is_root : List Term → ℕ → Bool
+is_root roots place = list_any (λ r. r.0 == place) roots
 
 -- the place is an operand of the node
 abbrev pub IsOperand : ℕ → Node → Type 0

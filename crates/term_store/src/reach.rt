@@ -2,7 +2,7 @@
 ghost use Rattle.std.specs.Prelude.{◌≡◌, ℕ, ◌<◌, ◌↔◌, ◌⊎◌, true, false, length, IfOk};
 ghost use Rattle.std.specs.List.{All, slice_index_or};
 ghost use Rattle.term_store.specs.Nodes.{IsNodeOver};
-ghost use Rattle.term_store.specs.Reach.{IsReached, IsOperand};
+ghost use Rattle.term_store.specs.Reach.{is_root, IsReached, IsOperand};
 
 use crate::node::{Node, Term};
 use crate::store::Store;
@@ -18,16 +18,26 @@ pub fn reached(alloc: Global, store: &Store, roots: &[Term]) -> Result<Vec<bool>
 {
     store.rules();
     let len = store.len() as usize;
+    let mut marks = mark_roots(alloc, len, roots)?;
+    for at in (0..len).rev() {
+        if marks[at] {
+            mark_operands(&mut marks, store.node(Term(at as u32)));
+        }
+    }
+    Ok(marks)
+}
+
+/// For each of so many places, whether it is a root.
+fn mark_roots(alloc: Global, len: usize, roots: &[Term]) -> Result<Vec<bool>, NoMemory>
+    requires roots { All (λ t. t.0 < len) roots.now }
+    ensures len { IfOk result (λ marks. length marks.items ≡ len) }
+    ensures marks { IfOk result (λ marks. (place : ℕ) → place < len → slice_index_or marks.items place false ≡ is_root roots.now place) }
+{
     let Ok(mut marks) = vec![in alloc; false; len] else {
         return Err(NoMemory);
     };
     for root in roots {
         marks[root.0 as usize] = true;
-    }
-    for at in (0..len).rev() {
-        if marks[at] {
-            mark_operands(&mut marks, store.node(Term(at as u32)));
-        }
     }
     Ok(marks)
 }

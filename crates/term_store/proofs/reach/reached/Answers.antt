@@ -1,11 +1,10 @@
 use Rattle.std.proofs.Common.{◌≡◌, ◌-◌, subst, arith}
 use Rattle.std.proofs.lemmas.Grind.{common_steps}
-use Rattle.term_store.proofs.Marks.{root_more, operands_more, marks_are, AreMarks, marked}
+use Rattle.term_store.proofs.Marks.{marks_begin, operands_more, marks_are, AreMarks, marked}
 use Rattle.term_store.proofs.reach.reached.Goals as goal
 
-pub loop-root-preserved : goal.loop-root-preserved
-loop-root-preserved c =
-    root_more _ _ _ c.loop-root.root-index _ c.loop-root-test.true (c.requires.roots _ _ c.loop-root-test.true) c.loop-root.invariant
+pub loop-at-init : goal.loop-at-init
+loop-at-init c = marks_begin _ _ _ _ c.len-len.ensures.len c.requires.roots c.in_ok-marks.ensures.len c.in_ok-marks.ensures.marks
 
 pub loop-at-preserved-then-index : goal.loop-at-preserved-then-index
 loop-at-preserved-then-index c =

@@ -1,8 +1,5 @@
-use Rattle.term_store.proofs.Marks.{AreRootMarks, AreMarks}
+use Rattle.term_store.proofs.Marks.{AreMarks}
 use Rattle.term_store.proofs.reach.reached.Given as goal
-
-abbrev pub invariant-loop-root : goal.invariant-loop-root
-invariant-loop-root l = AreRootMarks l.store.nodes l.roots l.root-index l.marks.items
 
 abbrev pub invariant-loop-at : goal.invariant-loop-at
 invariant-loop-at l = AreMarks l.store.nodes l.roots l.at l.marks.items
