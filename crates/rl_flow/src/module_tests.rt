@@ -31,14 +31,17 @@ fn simulates_modules(rt: HostRuntime) -> Result<(), Fail> {
         (["sim", "f", "8", "4", "5"], b"y 00001111\n".as_slice()),
         (["sim", "f", "8", "7", "never"], b"y 00000001\n".as_slice()),
         (["sim", "f", "8", "8", "never"], b"y 00000000\n".as_slice()),
-        (
-            ["sim", "f", "8", "never", "never"],
-            b"y 00000000\n".as_slice(),
-        ),
     ];
     for (words, text) in latch {
         expect_values(&rt, alloc, RACE_MODULE, &words, text)?;
     }
+    expect_values(
+        &rt,
+        alloc,
+        RACE_MODULE,
+        &["sim", "f", "3", "never", "never"],
+        b"y 000\n",
+    )?;
     expect_values(
         &rt,
         alloc,
