@@ -5,9 +5,10 @@
 
 PROGRAM is the built racelog. For each SIZE (1,024 to 16,384 operators, doubling, where none are given) it makes a network,
 compiles it, evaluates it at some times, and simulates the compiled module for 64 cycles. It prints the least seconds of five
-runs, the most memory in MiB, and by how much the seconds grew from the size before. Memory of less than this script's own, some
-15 MiB, can't be told, and is given as that. With iverilog it compiles and runs the same module under
-a test bench of its own, and compares the levels of every output digit by digit.
+runs (of one, where that takes over 5 s), the most memory in MiB, and by how much the seconds grew from the size before. Memory
+of less than this script's own, some 15 MiB, can't be told, and is given as that. With iverilog it compiles and runs the same
+module under a test bench of its own, tells how many times as long that takes, and compares the levels of every output digit by
+digit.
 
 Then it makes modules of 1 to 16 MiB of text, doubling, and measures how long `sim` takes to read them: one cycle is simulated.
 Such a module has a wire for each 256 bytes, and the assign of each is an OR of earlier wires.
@@ -82,7 +83,7 @@ def times():
 
 
 def run(words, out):
-    """Runs a program five times: the least seconds, and the most memory in MiB."""
+    """Runs a program five times, or once where that takes over 5 s: the least seconds, and the most memory in MiB."""
     best = None
     most = 0.0
     for _ in range(5):
@@ -96,6 +97,8 @@ def run(words, out):
             sys.exit("%s ended with %d" % (" ".join(words[:2]), child.returncode))
         best = seconds if best is None else min(best, seconds)
         most = max(most, usage.ru_maxrss / 1024)
+        if seconds > 5:
+            break
     return best, most
 
 
