@@ -191,68 +191,38 @@ fn ports_are_1_to_64_of_at_most_32_bytes(rt: HostRuntime) -> Result<(), Fail> {
 #[test]
 fn assigns_are_judged(rt: HostRuntime) -> Result<(), Fail> {
     let alloc = rt.alloc();
-    check_body(
-        &rt,
-        alloc,
-        b"assign w = in_a;\nendmodule",
-        VerilogError::Name(7),
-    )?;
-    check_body(
-        &rt,
-        alloc,
-        b"assign in_a = in_b;\nendmodule",
-        VerilogError::Name(7),
-    )?;
-    check_body(
-        &rt,
-        alloc,
-        b"assign out_y = clk;\nendmodule",
-        VerilogError::Name(7),
-    )?;
-    check_body(
-        &rt,
-        alloc,
-        b"assign out_y = in_a[0];\nendmodule",
-        VerilogError::Name(7),
-    )?;
-    check_body(
-        &rt,
-        alloc,
-        b"assign out_y = ~out_y;\nendmodule",
-        VerilogError::Name(7),
-    )?;
-    check_body(
-        &rt,
-        alloc,
-        b"wire w;\nassign out_y = w;\nendmodule",
-        VerilogError::Order(8),
-    )?;
-    check_body(
-        &rt,
-        alloc,
-        b"wire w;\nassign w = w;\nendmodule",
-        VerilogError::Order(8),
-    )?;
-    let twice = b"assign out_y = in_a;\nassign out_y = in_b;\nendmodule";
-    check_body(&rt, alloc, twice, VerilogError::Order(8))?;
-    check_body(
-        &rt,
-        alloc,
-        b"reg d;\nassign out_y = d[0];\nendmodule",
-        VerilogError::Width(8),
-    )?;
-    check_body(
-        &rt,
-        alloc,
-        b"reg [1:0] d;\nassign out_y = d;\nendmodule",
-        VerilogError::Width(8),
-    )?;
-    check_body(
-        &rt,
-        alloc,
-        b"reg [1:0] d;\nassign out_y = d[2];\nendmodule",
-        VerilogError::Width(8),
-    )
+    let cases: [(&str, VerilogError); 11] = [
+        ("assign w = in_a;\nendmodule", VerilogError::Name(7)),
+        ("assign in_a = in_b;\nendmodule", VerilogError::Name(7)),
+        ("assign out_y = clk;\nendmodule", VerilogError::Name(7)),
+        ("assign out_y = in_a[0];\nendmodule", VerilogError::Name(7)),
+        ("assign out_y = ~out_y;\nendmodule", VerilogError::Name(7)),
+        (
+            "wire w;\nassign out_y = w;\nendmodule",
+            VerilogError::Order(8),
+        ),
+        ("wire w;\nassign w = w;\nendmodule", VerilogError::Order(8)),
+        (
+            "assign out_y = in_a;\nassign out_y = in_b;\nendmodule",
+            VerilogError::Order(8),
+        ),
+        (
+            "reg d;\nassign out_y = d[0];\nendmodule",
+            VerilogError::Width(8),
+        ),
+        (
+            "reg [1:0] d;\nassign out_y = d;\nendmodule",
+            VerilogError::Width(8),
+        ),
+        (
+            "reg [1:0] d;\nassign out_y = d[2];\nendmodule",
+            VerilogError::Width(8),
+        ),
+    ];
+    for (body, error) in cases {
+        check_body(&rt, alloc, body.as_bytes(), error)?;
+    }
+    Ok(())
 }
 
 #[test]
