@@ -10,7 +10,9 @@ In README.md and docs/*.md, in blocks between lines of ```:
     first word, or the first word after a `|`, is a tool that this machine lacks is skipped;
   - a text of a network or a table, where the next block is one line `racelog: ..` or a Verilog module: `compile` of that text must
     print that block;
-  - a block behind a line that ends with "`examples/NAME`:" must be that file.
+  - lines that end a module, where the next block is one line `racelog: ..`: `sim` of the last block that begins a module, with these
+    lines after it, must print that line;
+  - a block after a line that ends with "`examples/NAME`:" must be that file.
 
 With --try the answers are kept in FOLDER, where it is given: remove it when the program has changed. The status is 0 if all agree.
 """
@@ -45,7 +47,7 @@ sys.exit(int(status))
 
 
 class Block:
-    """A block of a document: its lines, the number of its first line, and the line of words before it."""
+    """A block of a document: its lines, the number of its first line, and the last line of words before it."""
 
     def __init__(self, number, lead, tag):
         self.number, self.lead, self.tag, self.lines = number, lead, tag, []
@@ -56,6 +58,12 @@ class Block:
     def is_source(self):
         words = [line for line in self.lines if line.strip() and not line.startswith("#")]
         return bool(words) and not self.lines[0].startswith("$ ") and words[0].split()[0] in ("racenet", "racetable")
+
+    def begins_module(self):
+        return self.lines[0].startswith("module race(") and self.lines[-1] != "endmodule"
+
+    def ends_module(self):
+        return self.lines[0].startswith("  ") and self.lines[-1] == "endmodule"
 
 
 def blocks(path):
@@ -89,16 +97,19 @@ def commands(block):
 
 def checks(document):
     """What is to be run or compared of a document: lists of number, command or None, what is said, and a text for a file."""
-    last = None
+    last, start = None, ""
     for block in blocks(document):
         named = re.search(r"`(examples/[\w.]+)`:$", block.lead)
         if named:
             yield block.number, "cat " + named.group(1), block.text(), None
         yield from ((number, words, said, None) for number, words, said in commands(block))
         told = len(block.lines) == 1 and block.lines[0].startswith("racelog: ")
-        if last is not None and (told or block.tag == "verilog"):
+        if last is not None and last.ends_module() and told:
+            yield block.number, "racelog sim _text 8 3", block.text(), start + last.text()
+        elif last is not None and last.is_source() and (told or block.tag == "verilog"):
             yield block.number, "racelog compile _text", block.text(), last.text()
-        last = block if block.is_source() else None
+        start = block.text() if block.begins_module() else start
+        last = block
 
 
 def missing_tool(command):
