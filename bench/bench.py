@@ -4,11 +4,13 @@
     python3 bench/bench.py PROGRAM [SIZE ..]
 
 PROGRAM is the built racelog. For each SIZE (1,024 to 16,384 operators, doubling, where none are given) it makes a network,
-compiles it, evaluates it at some times, and simulates the compiled module for 64 cycles. It prints the least seconds of five
-runs (of one, where that takes over 5 s), the most memory in MiB, and by how much the seconds grew from the size before. Memory
-of less than this script's own, some 15 MiB, can't be told, and is given as that. With iverilog it compiles and runs the same
-module under a test bench of its own, tells how many times as long that takes, and compares the levels of every output digit by
-digit.
+compiles it, evaluates it at some times, and simulates the compiled module for 64 cycles. It prints the wires and register bits of
+the module, the least seconds of five runs (of one, where that takes over 5 s), the most memory in MiB, and by how much the
+seconds grew from the size before. Memory of at most this script's own, some 15 MiB, can't be measured, and is given as `<` and
+that. With iverilog it compiles and runs the same module under a test bench of its own, prints the seconds of both, and compares
+the levels of every output digit by digit.
+
+Then it runs the module of the least SIZE once for 100,000 cycles.
 
 Then it makes modules of 1 to 16 MiB of text, doubling, and measures how long `sim` takes to read them: one cycle is simulated.
 Such a module has a wire for each 256 bytes, and the assign of each is an OR of earlier wires.
@@ -17,6 +19,8 @@ A network of SIZE operators and as many inc has 32 inputs and 16 outputs. Each l
 256 lets and inputs before it, chosen by a fixed generator of numbers, the first delayed by 1 to 3 cycles.
 """
 import os
+import re
+import resource
 import shutil
 import subprocess
 import sys
@@ -26,6 +30,7 @@ import time
 INPUTS = 32
 OUTPUTS = 16
 CYCLES = 64
+MANY_CYCLES = 100000
 
 
 class Numbers:
@@ -102,7 +107,13 @@ def run(words, out):
     return best, most
 
 
-def test_bench(rises):
+def shown(memory):
+    """Memory in MiB as it is printed: one that is no more than this script's own can't be measured."""
+    own = resource.getrusage(resource.RUSAGE_SELF).ru_maxrss / 1024
+    return "%6.1f" % memory if memory > own + 0.5 else ("<%.0f" % (own + 0.5)).rjust(6)
+
+
+def test_bench(rises, cycles):
     """A module that drives race by levels, and prints its outputs in each cycle."""
     lines = ["module bench;", "reg clk = 0, rst = 1;"]
     ports = [".clk(clk)", ".rst(rst)"]
@@ -114,7 +125,7 @@ def test_bench(rises):
         ports.append(".out_y%d(y%d)" % (o, o))
     lines.append("race it(%s);" % ", ".join(ports))
     lines += ["integer t;", "initial begin", "#1 clk = 1; #1 clk = 0; rst = 0;"]
-    lines.append("for (t = 0; t < %d; t = t + 1) begin" % CYCLES)
+    lines.append("for (t = 0; t < %d; t = t + 1) begin" % cycles)
     for i, rise in enumerate(rises):
         if rise != "never":
             lines.append("a%d = t >= %s;" % (i, rise))
@@ -124,45 +135,60 @@ def test_bench(rises):
     return "\n".join(lines) + "\n"
 
 
-def beside(folder, rises):
-    """iverilog's seconds to compile and run the module, and whether its levels are the same."""
+def beside(folder, rises, cycles):
+    """iverilog's seconds to compile and to run the module, and whether its levels are the same."""
     with open(os.path.join(folder, "bench.v"), "w") as to:
-        to.write(test_bench(rises))
+        to.write(test_bench(rises, cycles))
     made = os.path.join(folder, "made")
     words = ["iverilog", "-o", made, os.path.join(folder, "bench.v"), os.path.join(folder, "module.v")]
     compiled, _ = run(words, os.path.join(folder, "nothing"))
     ran, _ = run(["vvp", "-n", made], os.path.join(folder, "levels.iverilog"))
     with open(os.path.join(folder, "levels.iverilog")) as f:
-        cycles = [line.strip() for line in f if line.strip()]
+        theirs = [line.strip() for line in f if line.strip()]
     with open(os.path.join(folder, "levels")) as f:
         rows = [line.split()[1] for line in f]
-    same = all("".join(row[t] for row in rows) == cycles[t] for t in range(CYCLES))
-    return compiled + ran, same
+    same = len(theirs) >= cycles and all("".join(row[t] for row in rows) == theirs[t] for t in range(cycles))
+    return "  %8.4f  %8.4f  %s" % (compiled, ran, "yes" if same else "NO")
+
+
+def built(module):
+    """How many wires and register bits a module has."""
+    with open(module) as f:
+        text = f.read()
+    return len(re.findall("^  wire ", text, re.M)), len(re.findall("^  reg ", text, re.M))
+
+
+HEAD = "operators  wires   bits  command    cycles   seconds     MiB  growth"
+BESIDE = "  iverilog: compile       run  same"
 
 
 def measure_networks(program, sizes, folder):
-    """A line for each size and command."""
+    """A line for each size and command, and one of a long run."""
     rises = times()
     have = shutil.which("iverilog") is not None
-    print("operators  command   seconds    MiB  growth" + ("  iverilog  times  same" if have else ""))
+    print(HEAD + (BESIDE if have else ""))
     last = {}
     path = os.path.join(folder, "network")
     module = os.path.join(folder, "module.v")
     levels = os.path.join(folder, "levels")
-    for size in sizes:
+    for size, cycles in [(size, CYCLES) for size in sizes] + [(min(sizes), MANY_CYCLES)]:
         with open(path, "w") as to:
             to.write(network(size))
         jobs = [
             ("compile", [program, "compile", path], module),
             ("eval", [program, "eval", path] + rises, os.path.join(folder, "values")),
-            ("sim", [program, "sim", module, str(CYCLES)] + rises, levels),
+            ("sim", [program, "sim", module, str(cycles)] + rises, levels),
         ]
+        if cycles == MANY_CYCLES:
+            run(jobs[0][1], module)
+            jobs, last = jobs[2:], {}
         for name, words, out in jobs:
             seconds, memory = run(words, out)
-            line = "%9d  %-7s  %8.4f  %5.1f  %s" % (size, name, seconds, memory, growth(last, name, seconds))
+            wires, bits = built(module)
+            line = "%9d %6d %6d  %-7s  %8s  %8.4f  %s  %s" % (
+                size, wires, bits, name, cycles if name == "sim" else "-", seconds, shown(memory), growth(last, name, seconds))
             if have and name == "sim":
-                other, same = beside(folder, rises)
-                line += "  %8.4f  %5.1f  %s" % (other, other / seconds, "yes" if same else "NO")
+                line += "         " + beside(folder, rises, cycles)
             print(line, flush=True)
 
 
@@ -175,7 +201,7 @@ def growth(last, name, seconds):
 
 def measure_reading(program, folder):
     """A line for each size of a module's text."""
-    print("\n    bytes  command   seconds    MiB  growth")
+    print("\n    bytes  command   seconds     MiB  growth")
     last = {}
     path = os.path.join(folder, "long.v")
     for mebibytes in (1, 2, 4, 8, 16):
@@ -183,7 +209,7 @@ def measure_reading(program, folder):
             to.write(long_module(mebibytes * 1048576 - 4096))
         seconds, memory = run([program, "sim", path, "1", "0"], os.path.join(folder, "digit"))
         size = os.path.getsize(path)
-        print("%9d  %-7s  %8.4f  %5.1f  %s" % (size, "sim", seconds, memory, growth(last, "sim", seconds)), flush=True)
+        print("%9d  %-7s  %8.4f  %s  %s" % (size, "sim", seconds, shown(memory), growth(last, "sim", seconds)), flush=True)
 
 
 def main():

@@ -114,10 +114,16 @@ def checks(document):
 
 def missing_tool(command):
     """The first tool of a command that this machine lacks, or None."""
-    for part in re.split(r"&&|;|\|", command):
-        words = [word for word in shlex.split(part) if "=" not in word]
-        if words and words[0] != "racelog" and shutil.which(words[0]) is None:
-            return words[0]
+    words = shlex.shlex(command, posix=True, punctuation_chars=True)
+    words.whitespace_split = True
+    begins = True
+    for word in words:
+        if set(word) <= set("|;&"):
+            begins = True
+        elif begins and "=" not in word:
+            if word != "racelog" and shutil.which(word) is None:
+                return word
+            begins = False
     return None
 
 
