@@ -12,7 +12,8 @@ In README.md and docs/*.md, in blocks between lines of ```:
     print that block;
   - lines that end a module, where the next block is one line `racelog: ..`: `sim` of the last block that begins a module, with these
     lines after it, must print that line;
-  - a block after a line that ends with "`examples/NAME`:" must be that file.
+  - a block after a line that ends with "`examples/NAME`:" must be that file;
+  - a block of definitions, after a line that ends with "`CRATE/specs/NAME.antt`:", must have each of them as that file has it.
 
 With --try the answers are kept in FOLDER, where it is given: remove it when the program has changed. The status is 0 if all agree.
 """
@@ -112,13 +113,30 @@ def checks(document):
         last = block
 
 
+def quoted(document):
+    """Compares the definitions that a document quotes with their files: how many agreed, and a report for each that didn't."""
+    agreed, reports = 0, []
+    for block in blocks(document):
+        named = re.search(r"`([\w/]+\.antt)`:$", block.lead)
+        if block.tag == "antt" and named:
+            with open(os.path.join(TOP, "crates", named.group(1)), encoding="utf-8") as source:
+                parts = source.read().strip("\n").split("\n\n")
+            for part in block.text().strip("\n").split("\n\n"):
+                if part in parts:
+                    agreed += 1
+                else:
+                    reports.append("%s:%d: %s has no such definition\n%s\n" % (
+                        os.path.relpath(document, TOP), block.number, named.group(1), part))
+    return agreed, reports
+
+
 def missing_tool(command):
     """The first tool of a command that this machine lacks, or None."""
     words = shlex.shlex(command, posix=True, punctuation_chars=True)
     words.whitespace_split = True
     begins = True
     for word in words:
-        if set(word) <= set("|;&"):
+        if word[-1] in "|;&(" and set(word) <= set("|;&()<>"):
             begins = True
         elif begins and "=" not in word:
             if word != "racelog" and shutil.which(word) is None:
@@ -157,11 +175,12 @@ def run_all(bin_folder):
     reports, total, left_out = [], 0, {}
     for document in [os.path.join(TOP, "README.md")] + sorted(glob.glob(os.path.join(TOP, "docs", "*.md"))):
         agreed, skipped, wrong = run_document(document, bin_folder)
-        total += agreed
-        reports += wrong
+        same, misquoted = quoted(document)
+        total += agreed + same
+        reports += wrong + misquoted
         for tool, count in skipped.items():
             left_out[tool] = left_out.get(tool, 0) + count
-    words = "".join(", %d skipped for want of %s" % (count, tool) for tool, count in sorted(left_out.items()))
+    words = "".join(", %d skipped, since %s is missing" % (count, tool) for tool, count in sorted(left_out.items()))
     return reports, "%d agree, %d differ%s" % (total, len(reports), words)
 
 
