@@ -15,6 +15,9 @@ In README.md and docs/*.md, in blocks between lines of ```:
   - a block after a line that ends with "`examples/NAME`:" must be that file;
   - a block of definitions, after a line that ends with "`CRATE/specs/NAME.antt`:", must have each of them as that file has it.
 
+Besides, each row of a table in docs/definitions.md, of names in backticks and a file, must name a file below crates/ that has these
+names. A file without a path is in one of the directories that the heading above gives.
+
 With --try the answers are kept in FOLDER, where it is given: remove it when the program has changed. The status is 0 if all agree.
 """
 import glob
@@ -130,6 +133,37 @@ def quoted(document):
     return agreed, reports
 
 
+def has_names(paths, names):
+    """Whether one of these files has all these names."""
+    for path in paths:
+        if os.path.isfile(path):
+            with open(path, encoding="utf-8") as source:
+                text = source.read()
+            if all(re.search(r"(?<!\w)%s(?!\w)" % re.escape(name.split("::")[-1]), text) for name in names):
+                return True
+    return False
+
+
+def listed():
+    """Looks up the names of docs/definitions.md in their files: how many rows agreed, and a report for each that didn't."""
+    agreed, reports, folders = 0, [], []
+    with open(os.path.join(TOP, "docs", "definitions.md"), encoding="utf-8") as document:
+        for number, line in enumerate(document, 1):
+            cells = [cell.strip() for cell in line.split("|")]
+            if line.startswith("#"):
+                folders = re.findall(r"`(\w+/\w+)`", line)
+            elif len(cells) > 3 and cells[1].startswith("`") and re.fullmatch(r"(`[\w/]+\.(antt|rt)`(, )?)+", cells[2]):
+                files = re.findall(r"`([^`]+)`", cells[2])
+                paths = [os.path.join(TOP, "crates", file) for file in files if file.count("/") > 1]
+                paths += [os.path.join(TOP, "crates", folder, file) for folder in folders for file in files]
+                names = re.findall(r"`([^`]+)`", cells[1])
+                if all(has_names(paths, [name]) for name in names):
+                    agreed += 1
+                else:
+                    reports.append("docs/definitions.md:%d: %s: not in %s\n" % (number, cells[1], cells[2]))
+    return agreed, reports
+
+
 def missing_tool(command):
     """The first tool of a command that this machine lacks, or None."""
     words = shlex.shlex(command, posix=True, punctuation_chars=True)
@@ -180,6 +214,9 @@ def run_all(bin_folder):
         reports += wrong + misquoted
         for tool, count in skipped.items():
             left_out[tool] = left_out.get(tool, 0) + count
+    same, lost = listed()
+    total += same
+    reports += lost
     words = "".join(", %d skipped, since %s is missing" % (count, tool) for tool, count in sorted(left_out.items()))
     return reports, "%d agree, %d differ%s" % (total, len(reports), words)
 
