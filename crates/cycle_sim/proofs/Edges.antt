@@ -1,8 +1,8 @@
 -- A clock edge on the rows of registers, one place after another.
 use Rattle.std.proofs.Common.{◌≡◌, ℕ, zero, suc, ◌+◌, ◌<◌, Bool, true, false, List, [], ◌∷◌, ◌++◌, length, get_or, set, take, drop, map, refl, ap, ◌∙◌, arith, add-one}
 use Rattle.std.proofs.lemmas.List.{length-replicate, length-take-le}
-use Rattle.verilog_text.specs.Circuit.{Register, Circuit}
-use Rattle.verilog_text.specs.Meaning.{State, IsSettled, level, rows_after, row_at_start}
+use Rattle.circuit.specs.Circuit.{Register, Circuit}
+use Rattle.circuit.specs.Meaning.{State, IsSettled, level, rows_after, row_at_start}
 use Rattle.cycle_sim.specs.Ready.{IsReady}
 use Rattle.cycle_sim.specs.Levels.{HaveWidths, HasAllLevels, shifted, all_shifted}
 

@@ -1,8 +1,8 @@
 -- Histories, and the levels of inputs, grow at their ends.
 use Rattle.std.proofs.Common.{◌≡◌, ℕ, zero, suc, ◌+◌, Bool, List, [], ◌∷◌, ◌++◌, refl, ap, ◌∙◌, sym, subst, arith, add-zero, add-one, Option, Some, None}
 use Rattle.rl_time.specs.declared.time.Time.{Time}
-use Rattle.verilog_text.specs.Circuit.{Circuit}
-use Rattle.verilog_text.specs.Meaning.{State, IsHistory, Follows, levels_at, levels_from}
+use Rattle.circuit.specs.Circuit.{Circuit}
+use Rattle.circuit.specs.Meaning.{State, IsHistory, Follows, levels_at, levels_from}
 use Rattle.cycle_sim.specs.Standing.{IsStep, last_state, Ran, RanOn}
 
 last_of_more : (s : State) (states : List State) → last_state (states ++ s ∷ []) ≡ Some s

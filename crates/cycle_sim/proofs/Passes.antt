@@ -2,11 +2,11 @@
 use Rattle.std.proofs.Common.{◌≡◌, ℕ, zero, suc, ◌+◌, Bool, length, refl, ap, ◌∙◌, sym, subst, inl, arith, add-zero, add-one, Some}
 use Rattle.std.specs.Prelude.{slice_get}
 use Rattle.std.proofs.lemmas.List.{length-set}
-use Rattle.verilog_text.specs.declared.bit.Target.{Target}
-use Rattle.verilog_text.specs.declared.bit.Target.TheVariants as target
-use Rattle.verilog_text.specs.Circuit.{Assignment, Circuit}
-use Rattle.verilog_text.specs.Valid.{IsTarget}
-use Rattle.verilog_text.specs.Meaning.{State, level, put, activate, activate_one, activate_all, HasLevels, InOrder, upto, SettlesInOrder, IsSettled}
+use Rattle.circuit.specs.declared.bit.Target.{Target}
+use Rattle.circuit.specs.declared.bit.Target.TheVariants as target
+use Rattle.circuit.specs.Circuit.{Assignment, Circuit}
+use Rattle.circuit.specs.Valid.{IsTarget}
+use Rattle.circuit.specs.Meaning.{State, level, put, activate, activate_one, activate_all, HasLevels, InOrder, upto, SettlesInOrder, IsSettled}
 use Rattle.cycle_sim.specs.Levels.{HasPlace}
 
 -- the numbers from j on occur in themselves in order

@@ -1,9 +1,9 @@
 -- How the logic stores the value of a simulation.
 use Rattle.std.specs.Prelude.{Bool, List, Option, refl}
 use Rattle.std.specs.Coded.{Coded, code_by, coded×, coded_bool, coded_list, coded_option}
-use Rattle.verilog_text.specs.Circuit.{Circuit}
-use Rattle.verilog_text.specs.Code.{circuit_code}
-use Rattle.verilog_text.specs.Meaning.{State}
+use Rattle.circuit.specs.Circuit.{Circuit}
+use Rattle.circuit.specs.Code.{circuit_code}
+use Rattle.circuit.specs.Meaning.{State}
 use Rattle.cycle_sim.specs.Standing.{Standing}
 
 abbrev pub row_code : Coded (List Bool)

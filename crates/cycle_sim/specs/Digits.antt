@@ -1,7 +1,7 @@
 -- The levels of a module's outputs over a history, as texts of digits.
 use Rattle.std.specs.Prelude.{ℕ, ◌+◌, Bool, true, false, List, [], ◌∷◌, ◌++◌, map, slice_index_or, Option}
 use Rattle.std.specs.List.{range_with_len}
-use Rattle.verilog_text.specs.Meaning.{State}
+use Rattle.circuit.specs.Meaning.{State}
 use Rattle.cycle_sim.specs.Standing.{output_level}
 
 -- the byte `0` for low and `1` for high

@@ -1,9 +1,9 @@
 -- What the levels of a module are as lists, and one clock edge on them.
 use Rattle.std.specs.Prelude.{◌≡◌, ◌<◌, Bool, List, [], ◌∷◌, length, map, take}
-use Rattle.verilog_text.specs.declared.bit.Target.{Target}
-use Rattle.verilog_text.specs.declared.bit.Target.TheVariants as target
-use Rattle.verilog_text.specs.Circuit.{Register, Circuit}
-use Rattle.verilog_text.specs.Meaning.{State, HasLevels}
+use Rattle.circuit.specs.declared.bit.Target.{Target}
+use Rattle.circuit.specs.declared.bit.Target.TheVariants as target
+use Rattle.circuit.specs.Circuit.{Register, Circuit}
+use Rattle.circuit.specs.Meaning.{State, HasLevels}
 
 -- the rows have as many bits as these registers
 abbrev pub HaveWidths : List Register → List (List Bool) → Type 0

@@ -1,7 +1,7 @@
 -- What a simulation keeps between its steps.
 use Rattle.std.specs.Prelude.{◌≡◌, Bool, false, List, length, map}
-use Rattle.verilog_text.specs.Circuit.{Circuit}
-use Rattle.verilog_text.specs.Meaning.{State, row_at_start}
+use Rattle.circuit.specs.Circuit.{Circuit}
+use Rattle.circuit.specs.Meaning.{State, row_at_start}
 use Rattle.cycle_sim.specs.Levels.{HasAllLevels}
 
 -- every level has its place, there is room for a level of each register, and before the first step the registers are

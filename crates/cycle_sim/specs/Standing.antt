@@ -1,7 +1,7 @@
 -- A simulation: where it stands, its steps, and the histories that they make.
 use Rattle.std.specs.Prelude.{◌≡◌, ℕ, Bool, false, List, [], ◌∷◌, ◌++◌, slice_index_or, Option, Some, None}
-use Rattle.verilog_text.specs.Circuit.{Circuit}
-use Rattle.verilog_text.specs.Meaning.{State, IsStart, IsNext, IsHistory}
+use Rattle.circuit.specs.Circuit.{Circuit}
+use Rattle.circuit.specs.Meaning.{State, IsStart, IsNext, IsHistory}
 
 -- A module, and the state of the cycle in which its simulation stands: none before cycle 0.
 pub record Standing : Type 0 where

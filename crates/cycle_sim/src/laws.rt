@@ -2,8 +2,8 @@
 
 ghost use Rattle.std.specs.Prelude.{◌≡◌, ◌+◌, ◌++◌, ◌∷◌, ℕ, List, [], Bool, Option, None};
 ghost use Rattle.rl_time.specs.declared.time.Time.{Time};
-ghost use Rattle.verilog_text.specs.Circuit.{Circuit};
-ghost use Rattle.verilog_text.specs.Meaning.{State, levels_at, levels_from};
+ghost use Rattle.circuit.specs.Circuit.{Circuit};
+ghost use Rattle.circuit.specs.Meaning.{State, levels_at, levels_from};
 ghost use Rattle.cycle_sim.specs.Standing.{IsStep, Ran, RanOn};
 
 /// Before cycle 0 a simulation has an empty history, and each step makes the history one state longer at its end.

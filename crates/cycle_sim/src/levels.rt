@@ -1,14 +1,14 @@
 ghost use Rattle.std.specs.Prelude.{◌≡◌, ◌<◌, Bool, false, [], List, length, map, replicate, slice_index_or, IfOk};
-ghost use Rattle.verilog_text.specs.Meaning as spec;
-ghost use Rattle.verilog_text.specs.Meaning.{State, HasLevels, IsSettled, rows_after, row_at_start};
-ghost use Rattle.verilog_text.specs.View.{logic};
+ghost use Rattle.circuit.specs.Meaning as spec;
+ghost use Rattle.circuit.specs.Meaning.{State, HasLevels, IsSettled, rows_after, row_at_start};
+ghost use Rattle.circuit.specs.View.{logic};
 ghost use Rattle.cycle_sim.specs.Levels.{HasAllLevels, HaveWidths, HasPlace, all_shifted};
 
 use crate::row::{Row, all_low, read, shift_rows};
+use circuit::{Bit, Module, Reg, Target, laws};
 use rl_time::NoMemory;
 use std::alloc::Global;
 use std::marker::Model;
-use verilog_text::{Bit, Module, Reg, Target, laws};
 
 /// The level of each input, register bit, wire and output of a module.
 #[derive(Drop)]
@@ -20,7 +20,7 @@ pub struct Levels {
 }
 
 impl Model for Levels {
-    ghost use Rattle.verilog_text.specs.Meaning.{State};
+    ghost use Rattle.circuit.specs.Meaning.{State};
 
     ghost Value = { State };
 

@@ -1,15 +1,15 @@
 ghost use Rattle.std.specs.Prelude.{◌≡◌, ◌<◌, ◌≤◌, [], List, length, map, replicate, vec_len, vec_capacity, All, IfOk, IsSome};
 ghost use Rattle.rl_time.specs.Time as times;
-ghost use Rattle.verilog_text.specs.Meaning.{State, IsHistory, levels_at, levels_from};
+ghost use Rattle.circuit.specs.Meaning.{State, IsHistory, levels_at, levels_from};
 ghost use Rattle.cycle_sim.specs.Digits as spec;
 ghost use Rattle.cycle_sim.specs.Digits.{output_rows, with_digits};
 
 use crate::laws;
 use crate::row::all_low;
 use crate::sim::Sim;
+use circuit::Module;
 use rl_time::{NoMemory, Time};
 use std::alloc::Global;
-use verilog_text::Module;
 
 /// The levels of each output of a module in the first cycles after reset, where each input rises at its time and
 /// stays high: for each output in order one digit `0` or `1` a cycle, from cycle 0 on. There is one time for each

@@ -3,10 +3,10 @@ ghost use Rattle.cycle_sim.specs.Standing.{IsStep, output_level};
 
 use crate::levels::Levels;
 use crate::row::all_low;
+use circuit::Module;
 use rl_time::NoMemory;
 use std::alloc::Global;
 use std::marker::Model;
-use verilog_text::Module;
 
 /// A simulation of a module. It stands before cycle 0, or in a cycle, where all levels are settled.
 ///

@@ -1,18 +1,18 @@
 ghost use Rattle.std.specs.Prelude.{◌≡◌, IfOk, map};
 ghost use Rattle.std.specs.List.{range_with_len};
-ghost use Rattle.verilog_text.specs.declared.bit.Target.TheVariants.{Out};
-ghost use Rattle.verilog_text.specs.Circuit as circuit;
-ghost use Rattle.verilog_text.specs.Circuit.{Not, And, Or};
-ghost use Rattle.verilog_text.specs.View.{logic};
+ghost use Rattle.circuit.specs.declared.bit.Target.TheVariants.{Out};
+ghost use Rattle.circuit.specs.Circuit as circuit;
+ghost use Rattle.circuit.specs.Circuit.{Not, And, Or};
+ghost use Rattle.circuit.specs.View.{logic};
 
 use crate::{Sim, laws, simulate};
+use circuit::validity_laws::test_shows_validity;
+use circuit::{Assign, Bit, Module, Reg, Target};
 use rl_text::Name;
 use rl_time::{NoMemory, Time};
 use std::alloc::Global;
 use std::process::Abort;
 use std::test::Fail;
-use verilog_text::validity_laws::test_shows_validity;
-use verilog_text::{Assign, Bit, Module, Reg, Target};
 
 fn names(alloc: Global, texts: &[&str]) -> Result<Vec<Name>, NoMemory>
     ensures { IfOk result (λ names. names.items ≡ map (λ text. text.now) texts.now) }

@@ -2,8 +2,8 @@
 use Rattle.std.proofs.Common.{◌≡◌, ℕ, zero, suc, ◌+◌, ◌-◌, ◌<◌, ◌≤◌, List, [], ◌∷◌, ◌++◌, length, get_or, take, ap, ◌∙◌, sym, subst, arith, Some, All, append_assoc}
 use Rattle.std.specs.Prelude.{slice_get, codes}
 use Rattle.std.proofs.lemmas.Option.{slice_get-get_or}
-use Rattle.verilog_text.specs.Circuit.{Logic, Register, Assignment, Reg, circuit}
-use Rattle.verilog_text.specs.Names.{numbered}
+use Rattle.circuit.specs.Circuit.{Logic, Register, Assignment, Reg, circuit}
+use Rattle.circuit.specs.Names.{numbered}
 use Rattle.gate_lower.specs.declared.gates.Line.{Line}
 use Rattle.gate_lower.specs.declared.gates.Line.TheVariants as line
 use Rattle.gate_lower.specs.declared.gates.Gate.{Gate}

@@ -8,9 +8,9 @@ use Rattle.std.proofs.lemmas.Option.{slice_get_within, slice_get-get_or}
 use Rattle.rl_time.specs.declared.time.Time.{Time}
 use Rattle.rl_time.specs.declared.time.Time.TheVariants.{Never}
 use Rattle.rl_time.specs.Time.{time_lt, time_inc, has_risen}
-use Rattle.verilog_text.specs.Circuit.{Logic, Circuit, Register}
-use Rattle.verilog_text.specs.Circuit as b
-use Rattle.verilog_text.specs.Meaning.{State, level, IsSettled, row_after, rows_after, row_at_start, Follows, IsHistory, levels_at, levels_from}
+use Rattle.circuit.specs.Circuit.{Logic, Circuit, Register}
+use Rattle.circuit.specs.Circuit as b
+use Rattle.circuit.specs.Meaning.{State, level, IsSettled, row_after, rows_after, row_at_start, Follows, IsHistory, levels_at, levels_from}
 use Rattle.gate_lower.specs.declared.gates.Line.{Line}
 use Rattle.gate_lower.specs.declared.gates.Line.TheVariants as line
 use Rattle.gate_lower.specs.declared.gates.Gate.{Gate}

@@ -8,6 +8,7 @@ pub mod Times
 pub mod Marks
 pub mod PortNames
 pub mod Risen
+pub mod OneTiming
 pub mod Generic
 pub mod PlainForm
 pub mod Order

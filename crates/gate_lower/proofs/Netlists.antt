@@ -11,7 +11,7 @@ use Rattle.term_store.specs.declared.node.Node.TheVariants as node
 use Rattle.term_store.specs.Nodes.{node_at, IsNodes}
 use Rattle.term_store.specs.Places.{places, is_marked, is_join_node, is_lt_node, is_marked_with, longest_at, marked_upto}
 use Rattle.term_store.specs.Ports.{ArePorts}
-use Rattle.verilog_text.specs.Names.{is_port_name}
+use Rattle.circuit.specs.Names.{is_port_name}
 use Rattle.gate_lower.specs.declared.gates.Gate.{Gate}
 use Rattle.gate_lower.specs.declared.gates.Delay.{Delay}
 use Rattle.gate_lower.specs.Rules.{IsLineOf, IsNetlist, latch_bits, held_bits, delay_bits, register_bits}

@@ -4,12 +4,12 @@ use Rattle.std.specs.Prelude.{slice_get, ◌⊎◌, codes}
 use Rattle.std.proofs.lemmas.List.{length-map}
 use Rattle.std.proofs.lemmas.Option.{slice_get_within, slice_get-get_or}
 use Rattle.std.proofs.lemmas.Bool.{cases_lt, eqb-true, false≢true, or_cases}
-use Rattle.verilog_text.specs.declared.bit.Target.{Target}
-use Rattle.verilog_text.specs.declared.bit.Target.TheVariants as target
-use Rattle.verilog_text.specs.Circuit.{Logic, Circuit, Assignment, names_wire}
-use Rattle.verilog_text.specs.Circuit as b
-use Rattle.verilog_text.specs.Names.{numbered, numbered_name}
-use Rattle.verilog_text.specs.Valid.{IsTarget, IsOrdered}
+use Rattle.circuit.specs.declared.bit.Target.{Target}
+use Rattle.circuit.specs.declared.bit.Target.TheVariants as target
+use Rattle.circuit.specs.Circuit.{Logic, Circuit, Assignment, names_wire}
+use Rattle.circuit.specs.Circuit as b
+use Rattle.circuit.specs.Names.{numbered, numbered_name}
+use Rattle.circuit.specs.Valid.{IsTarget, IsOrdered}
 use Rattle.gate_lower.specs.declared.gates.Line.{Line}
 use Rattle.gate_lower.specs.declared.gates.Line.TheVariants as line
 use Rattle.gate_lower.specs.declared.gates.Gate.{Gate}

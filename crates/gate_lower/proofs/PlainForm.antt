@@ -1,10 +1,10 @@
 -- In the module of the plain form the taps and the held levels stand as the gates need them.
 use Rattle.std.proofs.Common.{◌≡◌, ℕ, zero, suc, ◌+◌, ◌-◌, ◌<◌, ◌≤◌, false, List, [], ◌∷◌, length, get_or, map, take, refl, ap, ◌∙◌, sym, subst, arith, Some, zero-add, length-append}
 use Rattle.std.specs.Prelude.{slice_get}
-use Rattle.verilog_text.specs.declared.bit.Target.TheVariants as target
-use Rattle.verilog_text.specs.Circuit.{Logic, Circuit, Register, Assignment}
-use Rattle.verilog_text.specs.Circuit as b
-use Rattle.verilog_text.specs.Meaning.{State, level, row_at_start}
+use Rattle.circuit.specs.declared.bit.Target.TheVariants as target
+use Rattle.circuit.specs.Circuit.{Logic, Circuit, Register, Assignment}
+use Rattle.circuit.specs.Circuit as b
+use Rattle.circuit.specs.Meaning.{State, level, row_at_start}
 use Rattle.gate_lower.specs.declared.gates.Line.{Line}
 use Rattle.gate_lower.specs.declared.gates.Gate.{Gate}
 use Rattle.gate_lower.specs.declared.gates.Gate.TheVariants as gate

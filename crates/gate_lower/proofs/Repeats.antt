@@ -3,10 +3,10 @@ use Rattle.std.proofs.Common.{◌≡◌, ℕ, zero, suc, ◌+◌, ◌-◌, ◌�
 use Rattle.std.specs.Prelude.{slice_get}
 use Rattle.std.proofs.lemmas.Bool.{cases_lt}
 use Rattle.std.proofs.lemmas.Option.{slice_get-get_or}
-use Rattle.verilog_text.specs.declared.bit.Target.TheVariants as target
-use Rattle.verilog_text.specs.Circuit.{Logic, Circuit, Assignment, Register}
-use Rattle.verilog_text.specs.Circuit as b
-use Rattle.verilog_text.specs.Repeats.{is_operand, IsAssigned, Kind, OrGate, AndGate, LatchGate, HasKind, IsGate, EachWireHasGate, EachOutputIsOperand, NoGateTwice, HasNoRepeatedWire}
+use Rattle.circuit.specs.declared.bit.Target.TheVariants as target
+use Rattle.circuit.specs.Circuit.{Logic, Circuit, Assignment, Register}
+use Rattle.circuit.specs.Circuit as b
+use Rattle.circuit.specs.Repeats.{is_operand, IsAssigned, Kind, OrGate, AndGate, LatchGate, HasKind, IsGate, EachWireHasGate, EachOutputIsOperand, NoGateTwice, HasNoRepeatedWire}
 use Rattle.gate_lower.specs.declared.gates.Line.{Line}
 use Rattle.gate_lower.specs.declared.gates.Line.TheVariants as line
 use Rattle.gate_lower.specs.declared.gates.Gate.{Gate}

@@ -2,9 +2,9 @@
 use Rattle.std.proofs.Common.{◌≡◌, ℕ, zero, suc, ◌+◌, ◌≤◌, false, List, [], ◌∷◌, refl, arith}
 use Rattle.std.specs.Prelude.{All}
 use Rattle.std.proofs.lemmas.List.Elements.{All-append, All-nil, All-cons}
-use Rattle.verilog_text.specs.Circuit.{Logic, Reg, Assignment, Register}
-use Rattle.verilog_text.specs.Text.{is_compound}
-use Rattle.verilog_text.specs.Printed.{depth, IsShallow}
+use Rattle.circuit.specs.Circuit.{Logic, Reg, Assignment, Register}
+use Rattle.circuit.specs.Depth.{is_compound}
+use Rattle.circuit.specs.Depth.{depth, IsShallow}
 use Rattle.gate_lower.specs.declared.gates.Line.{Line}
 use Rattle.gate_lower.specs.declared.gates.Line.TheVariants as line
 use Rattle.gate_lower.specs.declared.gates.Gate.{Gate}

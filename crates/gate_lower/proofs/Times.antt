@@ -105,6 +105,11 @@ module _ (nodes : List Node) (marks : List Bool) (inputs : ℕ) (rules : IsNodes
       ap (λ t. t ∷ map (λ o. line_time x gate_times delay_times o.line) (outputs_of nodes marks roots names)) (line_has_time r.0 (within zero r (omega arith)) (marked zero r (omega arith)))
       ∙ ap (λ ts. place_time r.0 ∷ ts) (outputs_timed roots names (omega (arith, l)) (λ k d lt. within (suc k) d (omega (arith, lt))) (λ k d lt. marked (suc k) d (omega (arith, lt))))
 
+pub terms_values : (nodes : List Node) (marks : List Bool) (roots : List Term) (ins outs : List (List ℕ)) → IsNodes nodes → AreMarks nodes marks (length ins) →
+    ((p : ℕ) → p < length nodes → tree nodes p ≡ tree_by_places nodes (node_at nodes p)) → (x : List Time) →
+    IsTiming (marked_netlist nodes marks roots ins outs) x (λ k. value x (tree nodes (slice_index_or (gate_places nodes marks) k 0))) (λ n. value x (tree nodes (slice_index_or (delay_places nodes marks) n 0)))
+terms_values nodes marks roots ins outs rules closed follows x = is_timing nodes marks (length ins) rules closed follows x roots ins outs
+
 pub gates_of_terms : (nodes : List Node) (marks : List Bool) (roots : List Term) (ins outs : List (List ℕ)) → IsNodes nodes → AreMarks nodes marks (length ins) →
     ((p : ℕ) → p < length nodes → tree nodes p ≡ tree_by_places nodes (node_at nodes p)) → length outs ≡ length roots →
     All (λ r. r.0 < length nodes) roots → All (λ r. is_marked marks r.0 ≡ true) roots →

@@ -5,11 +5,11 @@ use Rattle.std.specs.List.{AllByRecursion}
 use Rattle.std.proofs.lemmas.List.{length-map}
 use Rattle.std.proofs.lemmas.List.Elements.{All-from_recursion}
 use Rattle.std.proofs.lemmas.List.Sums.{sum_by-cons}
-use Rattle.verilog_text.specs.Circuit.{Logic, Circuit, Assignment, Register, register_bits}
-use Rattle.verilog_text.specs.Circuit as b
-use Rattle.verilog_text.specs.Names.{numbered}
-use Rattle.verilog_text.specs.Numbering.{HasNumberedNames, HasPortNames}
-use Rattle.verilog_text.specs.Valid.{HasBit, HasValidNames, IsInRange, IsValid}
+use Rattle.circuit.specs.Circuit.{Logic, Circuit, Assignment, Register, register_bits}
+use Rattle.circuit.specs.Circuit as b
+use Rattle.circuit.specs.Names.{numbered}
+use Rattle.circuit.specs.Numbering.{HasNumberedNames, HasPortNames}
+use Rattle.circuit.specs.Valid.{HasBit, HasValidNames, IsInRange, IsValid}
 use Rattle.gate_lower.specs.declared.gates.Line.{Line}
 use Rattle.gate_lower.specs.declared.gates.Line.TheVariants as line
 use Rattle.gate_lower.specs.declared.gates.Gate.{Gate}

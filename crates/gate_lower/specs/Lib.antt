@@ -3,5 +3,6 @@ pub mod Rules
 pub mod Timing
 pub mod Plain
 pub mod Lowered
+pub mod Valued
 pub mod Planned
 pub mod Networks

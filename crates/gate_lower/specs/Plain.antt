@@ -1,8 +1,8 @@
 -- The module of gates in the plain form: one register for each bit, those of the delays in order, then one for each latch.
 use Rattle.std.specs.Prelude.{ℕ, zero, suc, ◌+◌, ◌-◌, ◌^◌, ◌<◌, List, [], ◌∷◌, ◌++◌, length, codes, slice_index_or}
-use Rattle.verilog_text.specs.declared.bit.Target.TheVariants as target
-use Rattle.verilog_text.specs.Circuit.{Logic, Zero, Input, Wire, Reg, Not, And, Or, Assignment, Register, Circuit, circuit}
-use Rattle.verilog_text.specs.Names.{numbered_name, numbered}
+use Rattle.circuit.specs.declared.bit.Target.TheVariants as target
+use Rattle.circuit.specs.Circuit.{Logic, Zero, Input, Wire, Reg, Not, And, Or, Assignment, Register, Circuit, circuit}
+use Rattle.circuit.specs.Names.{numbered_name, numbered}
 use Rattle.gate_lower.specs.declared.gates.Line.{Line}
 use Rattle.gate_lower.specs.declared.gates.Line.TheVariants as line
 use Rattle.gate_lower.specs.declared.gates.Gate.{Gate}

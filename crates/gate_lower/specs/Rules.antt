@@ -1,6 +1,6 @@
 -- The rules that all gates keep.
 use Rattle.std.specs.Prelude.{◌≡◌, ◌≢◌, ℕ, ◌+◌, ◌<◌, ◌≤◌, List, [], ◌∷◌, length, map, slice_get, Some, All, AllPairs, IsTrue}
-use Rattle.verilog_text.specs.Names.{is_port_name}
+use Rattle.circuit.specs.Names.{is_port_name}
 use Rattle.gate_lower.specs.declared.gates.Line.{Line}
 use Rattle.gate_lower.specs.declared.gates.Line.TheVariants as line
 use Rattle.gate_lower.specs.declared.gates.Gate.{Gate}

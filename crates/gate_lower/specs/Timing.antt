@@ -1,11 +1,11 @@
 -- The times of gates and delays: a set of equations, and no recursion.
-use Rattle.std.specs.Prelude.{◌≡◌, ℕ, false, List, map, slice_get, slice_index_or, Some}
+use Rattle.std.specs.Prelude.{◌≡◌, ℕ, ◌<◌, false, List, length, map, slice_get, slice_index_or, Some}
 use Rattle.rl_time.specs.declared.time.Time.{Time}
 use Rattle.rl_time.specs.declared.time.Time.TheVariants.{Never}
 use Rattle.rl_time.specs.Time.{time_min, time_max, time_lt, time_inc, has_risen}
 use Rattle.term_store.specs.Tree.{Tree, value}
-use Rattle.verilog_text.specs.Circuit.{Circuit}
-use Rattle.verilog_text.specs.Meaning.{State, IsHistory, levels_from}
+use Rattle.circuit.specs.Circuit.{Circuit}
+use Rattle.circuit.specs.Meaning.{State, IsHistory, levels_from}
 use Rattle.gate_lower.specs.declared.gates.Line.{Line}
 use Rattle.gate_lower.specs.declared.gates.Line.TheVariants as line
 use Rattle.gate_lower.specs.declared.gates.Gate.{Gate}
@@ -31,6 +31,11 @@ gate_time x gates delays (gate.Latch p q) = time_lt (line_time x gates delays p)
 pub record IsTiming (g : Netlist) (x : List Time) (gates delays : ℕ → Time) : Type 0 where
   pub each_gate : (k : ℕ) (q : Gate) → slice_get g.gates k ≡ Some q → gates k ≡ gate_time x gates delays q
   pub each_delay : (n : ℕ) (d : Delay) → slice_get g.delays n ≡ Some d → delays n ≡ line_time x gates delays d.from
+
+-- any two timings agree on every gate and every delay
+abbrev pub TimingsAgree : Netlist → List Time → Type 0
+TimingsAgree g x = (gates delays gates' delays' : ℕ → Time) → IsTiming g x gates delays → IsTiming g x gates' delays' →
+    ((k : ℕ) → k < length g.gates → gates k ≡ gates' k) × ((n : ℕ) → n < length g.delays → delays n ≡ delays' n)
 
 -- in a cycle each gate's wire is high exactly where its time is at most the cycle, and each output where its line's time is
 pub record IsRightAt (g : Netlist) (x : List Time) (gates delays : ℕ → Time) (cycle : ℕ) (s : State) : Type 0 where

@@ -1,13 +1,13 @@
 ghost use Rattle.std.specs.Prelude.{◌≡◌, ◌+◌, ◌≤◌, ◌++◌, length, All, IfOk, OnOk};
-ghost use Rattle.verilog_text.specs.Circuit.{Reg, And, Or};
-ghost use Rattle.verilog_text.specs.View.{logic};
+ghost use Rattle.circuit.specs.Circuit.{Reg, And, Or};
+ghost use Rattle.circuit.specs.View.{logic};
 ghost use Rattle.gate_lower.specs.Rules.{latch_bits};
 ghost use Rattle.gate_lower.specs.Plain.{operand, gate_logic, tap_at, TapFits, GateFits, gate_assigns, output_assigns};
 
 use crate::gates::{Gate, Line, OutLine};
+use circuit::{Assign, Bit, Target};
 use rl_time::NoMemory;
 use std::alloc::Global;
-use verilog_text::{Assign, Bit, Target};
 
 /// The bit that a line is, by the first registers of the delays.
 pub fn operand(firsts: &[u32], line: Line) -> Bit

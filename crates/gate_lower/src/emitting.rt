@@ -1,7 +1,7 @@
 ghost use Rattle.std.specs.Prelude.{◌≡◌, length, IfOk};
-ghost use Rattle.verilog_text.specs.Circuit as circuit;
-ghost use Rattle.verilog_text.specs.Printed.{IsShallow};
-ghost use Rattle.verilog_text.specs.Repeats.{HasNoRepeatedWire};
+ghost use Rattle.circuit.specs.Circuit as circuit;
+ghost use Rattle.circuit.specs.Depth.{IsShallow};
+ghost use Rattle.circuit.specs.Repeats.{HasNoRepeatedWire};
 ghost use Rattle.gate_lower.specs.Rules as rules;
 ghost use Rattle.gate_lower.specs.Rules.{IsNetlist, delay_bits, output_names};
 ghost use Rattle.gate_lower.specs.Timing.{TimeIsLevel};
@@ -11,10 +11,10 @@ use crate::bits::{gate_assigns, push_output_assigns};
 use crate::gates::Gates;
 use crate::names::{copy_names, output_names, wire_names};
 use crate::registers::{delay_registers, first_registers, push_latch_registers};
+use circuit::validity_laws::numbered_names_are_valid;
+use circuit::{Assign, Module, Reg};
 use rl_time::NoMemory;
 use std::alloc::Global;
-use verilog_text::validity_laws::numbered_names_are_valid;
-use verilog_text::{Assign, Module, Reg};
 
 /// The registers of the module of gates, and how many of them are the delays'.
 fn registers(alloc: Global, g: &Gates, firsts: &[u32]) -> Result<(Vec<Reg>, u32), NoMemory>

@@ -6,6 +6,7 @@
 mod bits;
 mod emitting;
 mod gates;
+pub mod laws;
 mod lowering;
 mod names;
 mod networks;

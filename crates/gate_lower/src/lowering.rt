@@ -10,6 +10,7 @@ ghost use Rattle.gate_lower.specs.Planned.{IsPlan};
 ghost use Rattle.gate_lower.specs.Rules as rules;
 ghost use Rattle.gate_lower.specs.Rules.{IsNetlist};
 ghost use Rattle.gate_lower.specs.Timing.{AreGatesOf};
+ghost use Rattle.gate_lower.specs.Valued.{HaveTermsValues};
 ghost use Rattle.gate_lower.specs.declared.lowering.LowerError.TheVariants.{TooManyBits};
 
 use crate::gates::{Delay, Gate, Gates, OutLine};
@@ -175,6 +176,7 @@ pub fn lower(
     requires terms { AreNetworkTerms (length inputs.now) (trees_at store.now.nodes roots.now) }
     ensures gates { IfOk result (λ g. g ≡ lowered store.now.nodes roots.now inputs.now outputs.now) }
     ensures timed { IfOk result (AreGatesOf inputs.now outputs.now (trees_at store.now.nodes roots.now)) }
+    ensures terms { IfOk result (HaveTermsValues store.now.nodes roots.now) }
     ensures wires { IfOk result (λ g. length g.gates ≡ join_count (trees_at store.now.nodes roots.now)) }
     ensures bits { IfOk result (λ g. rules.register_bits g ≡ register_bits (trees_at store.now.nodes roots.now)) }
     ensures few { OnOk result (register_bits (trees_at store.now.nodes roots.now) ≤ 65536) }

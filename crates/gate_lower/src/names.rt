@@ -1,5 +1,5 @@
 ghost use Rattle.std.specs.Prelude.{◌≡◌, ◌≤◌, codes, IfOk};
-ghost use Rattle.verilog_text.specs.Names.{numbered_name, numbered};
+ghost use Rattle.circuit.specs.Names.{numbered_name, numbered};
 ghost use Rattle.gate_lower.specs.Rules.{output_names};
 
 use crate::gates::OutLine;

@@ -1,15 +1,15 @@
 ghost use Rattle.std.specs.Prelude.{◌≡◌, ◌+◌, ◌≤◌, ◌++◌, length, All, IfOk, OnOk};
-ghost use Rattle.verilog_text.specs.View.{logic};
+ghost use Rattle.circuit.specs.View.{logic};
 ghost use Rattle.gate_lower.specs.Rules.{delay_bits};
 ghost use Rattle.gate_lower.specs.Plain.{first_registers, tap_at, TapFits, chain, delay_registers, latch_registers};
 
 use crate::bits::operand;
 use crate::gates::{Delay, Gate};
 use crate::names::numbered_name;
+use circuit::{Bit, Reg};
 use rl_time::NoMemory;
 use std::alloc::Global;
 use std::mem;
-use verilog_text::{Bit, Reg};
 
 /// The numbers of the delays' first registers.
 pub fn first_registers(alloc: Global, delays: &[Delay]) -> Result<Vec<u32>, NoMemory>

@@ -3,11 +3,11 @@ use Rattle.std.proofs.Common.{◌≡◌, ℕ, zero, suc, ◌<◌, Bool, true, fa
 use Rattle.std.specs.Prelude.{slice_get, is_some}
 use Rattle.std.proofs.lemmas.List.{map-set, length-set, get_or-set_same, get_or-set_other}
 use Rattle.std.proofs.lemmas.Bool.{and_parts, or_parts, cases_eq}
-use Rattle.verilog_text.specs.declared.bit.Target.{Target}
-use Rattle.verilog_text.specs.declared.bit.Target.TheVariants as target
+use Rattle.circuit.specs.declared.bit.Target.{Target}
+use Rattle.circuit.specs.declared.bit.Target.TheVariants as target
 use Rattle.verilog_text.specs.declared.rule.Rule.TheVariants as rule
-use Rattle.verilog_text.specs.Circuit.{Logic, Register}
-use Rattle.verilog_text.specs.Valid.{IsTarget}
+use Rattle.circuit.specs.Circuit.{Logic, Register}
+use Rattle.circuit.specs.Valid.{IsTarget}
 use Rattle.verilog_text.specs.Grammar as g
 use Rattle.verilog_text.specs.Grammar.{Expression, Next, Whole, Shifted}
 use Rattle.verilog_text.specs.Judging as j
@@ -17,10 +17,11 @@ use Rattle.verilog_read.specs.declared.scope.Meaning as source_meaning
 use Rattle.verilog_read.specs.declared.scope.Meaning.TheVariants as m
 use Rattle.verilog_read.specs.Known as k
 use Rattle.verilog_read.specs.Known.{find, meaning, meaning_found, knows_by, given_by, fits_by, resolved_by, names_reg_by}
-use Rattle.verilog_read.specs.Draft.{HasPlace, AreFlags, IsDraft, is_assigned_by, assign_misnamed_by, assign_misordered_by, always_misnamed_by, is_update_reg, update_at, set_register}
+use Rattle.verilog_laws.specs.Sound.{HasPlace, IsSound}
+use Rattle.verilog_read.specs.Draft.{AreFlags, IsDraft, is_assigned_by, assign_misnamed_by, assign_misordered_by, always_misnamed_by, is_update_reg, update_at, set_register}
 use Rattle.verilog_read.proofs.Places.{get_within, get_map, get_none}
-use Rattle.verilog_read.proofs.Meanings.{reg_is, reg_known, knows_is, given_is, fits_is, resolved_is, resolved_in_range, named_given}
-use Rattle.verilog_read.proofs.Sound.{given_more, assign_more, sound_assign, next_more, sound_next, bits_next}
+use Rattle.verilog_read.proofs.Meanings.{reg_is, reg_known, knows_is, given_is, fits_is, resolved_is}
+use Rattle.verilog_read.proofs.Given.{given_more, assign_more, next_more, bits_next}
 use Rattle.verilog_read.proofs.Kept.{Keeps, keeps, name_broken, order_broken, width_broken, none_broken}
 
 not_false : (b : Bool) → not b ≡ false → b ≡ true
@@ -102,7 +103,7 @@ flags_other flags n f f' h e = record { len = h.len; each = λ k lt. h.each k lt
 
 -- ---- a draft with one assign more
 
-module _ (d new : source.Draft) (x : SoFar) (h : IsDraft d x) (n : List ℕ) (e : Expression) (r : first_rule x (g.Assign n e) ≡ None) (bit : Logic) (is : bit ≡ resolved_by (find d.scope) e) where
+module _ (d new : source.Draft) (x : SoFar) (h : IsDraft d x) (n : List ℕ) (e : Expression) (more_sound : IsSound (after x (g.Assign n e))) (r : first_rule x (g.Assign n e) ≡ None) (bit : Logic) (is : bit ≡ resolved_by (find d.scope) e) where
   kept : Keeps x (g.Assign n e)
   kept = keeps x (g.Assign n e) r
 
@@ -112,18 +113,12 @@ module _ (d new : source.Draft) (x : SoFar) (h : IsDraft d x) (n : List ℕ) (e 
   fits_e : j.fits_widths x e ≡ true
   fits_e = not_false (j.fits_widths x e) kept.width
 
-  given_e : j.are_given x e ≡ true
-  given_e = not_false (j.are_given x e) (or_parts (not (j.are_given x e)) (j.is_assigned x.assigns (target_of (found n x.entries))) kept.order).0
-
   bit_is : bit ≡ j.resolved x.entries e
   bit_is = is ∙ resolved_is (find d.scope) x h.sound h.names e knows_e fits_e
 
   module _ (t : Target) (at : target_of (found n x.entries) ≡ Some t) where
     after_is : after x (g.Assign n e) ≡ assign_more x t (j.resolved x.entries e)
     after_is = ap (λ (o : Option Target). j.with_assign o (j.resolved x.entries e) x) at
-
-    new_is : is_given x.assigns t ≡ false
-    new_is = ap (j.is_assigned x.assigns) (sym at) ∙ (or_parts (not (j.are_given x e)) (j.is_assigned x.assigns (target_of (found n x.entries))) kept.order).1
 
     aims : (o : Option Meaning) → found n x.entries ≡ o → target_of o ≡ Some t → IsTarget (module_of x) t
     aims None f q = absurd cc
@@ -154,7 +149,7 @@ module _ (d new : source.Draft) (x : SoFar) (h : IsDraft d x) (n : List ℕ) (e 
           given_outputs = go;
           updated = up ∙ h.updated;
           bits = bits ∙ h.bits;
-          sound = sound_assign x t (j.resolved x.entries e) h.sound has_target (resolved_in_range x h.sound e fits_e) new_is (λ w q. named_given x w e given_e q);
+          sound = subst IsSound after_is more_sound;
         })
 
   more : (t u : Target) → is_given (assign_more x t (j.resolved x.entries e)).assigns u ≡ (is_given x.assigns u || same_target u t)
@@ -288,7 +283,7 @@ module _ (d : source.Draft) (x : SoFar) (h : IsDraft d x) (r z s : List ℕ) whe
         pub always_stands : (f a : Bool) → f ≡ fits_by (find d.scope) d.regs.items (expression_of e) → f ≡ true → a ≡ update_at d.regs.items o z s e → a ≡ true → first_rule x (g.Always r z s e) ≡ None
         always_stands f a i w l n = none_broken x (g.Always r z s e) named ordered (sym always_width ∙ (λ y. not ((sym i ∙ w) y) || not ((sym l ∙ n) y))) refl
 
-module _ (d new : source.Draft) (x : SoFar) (h : IsDraft d x) (r z s : List ℕ) (e : Next) (rule : first_rule x (g.Always r z s e) ≡ None) where
+module _ (d new : source.Draft) (x : SoFar) (h : IsDraft d x) (r z s : List ℕ) (e : Next) (more_sound : IsSound (after x (g.Always r z s e))) (rule : first_rule x (g.Always r z s e) ≡ None) where
   always_keeps : Keeps x (g.Always r z s e)
   always_keeps = keeps x (g.Always r z s e) rule
 
@@ -334,5 +329,5 @@ module _ (d new : source.Draft) (x : SoFar) (h : IsDraft d x) (r z s : List ℕ)
         given_outputs = subst (λ (fs : List Bool). AreFlags fs (length x.outputs) (λ o. is_given x.assigns (target.Out o))) (sym go) h.given_outputs;
         updated = up ∙ ap (λ (fs : List Bool). set fs i true) h.updated ∙ sym (map-set (λ r. is_some r.next) x.regs i (record w.0 { next = Some b }));
         bits = bits ∙ h.bits ∙ sym (bits_next x i w.0 b w.1);
-        sound = sound_next x i w.0 b h.sound w.1 (resolved_in_range x h.sound (expression_of e) fits_next);
+        sound = subst IsSound same more_sound;
       })

@@ -7,12 +7,12 @@ use Rattle.std.specs.Str.{bytes_eq}
 use Rattle.std.proofs.lemmas.List.{drop-map, map-append, length-map}
 use Rattle.std.proofs.lemmas.List.Sums.{sum_by-cons, sum_by-append}
 use Rattle.std.proofs.lemmas.Bool.{or_parts, cases_lt, lt-ltb}
-use Rattle.verilog_text.specs.declared.bit.Target.{Target}
-use Rattle.verilog_text.specs.declared.bit.Target.TheVariants as target
+use Rattle.circuit.specs.declared.bit.Target.{Target}
+use Rattle.circuit.specs.declared.bit.Target.TheVariants as target
 use Rattle.verilog_text.specs.declared.rule.Rule.TheVariants as rule
-use Rattle.verilog_text.specs.Circuit.{Zero, Register}
-use Rattle.verilog_text.specs.Names.{is_own_name}
-use Rattle.verilog_text.specs.Valid.{IsTarget}
+use Rattle.circuit.specs.Circuit.{Zero, Register}
+use Rattle.circuit.specs.Names.{is_own_name}
+use Rattle.circuit.specs.Valid.{IsTarget}
 use Rattle.verilog_text.specs.Grammar as g
 use Rattle.verilog_text.specs.Grammar.{Form, Expression}
 use Rattle.verilog_text.specs.Judging as j
@@ -22,12 +22,13 @@ use Rattle.verilog_read.specs.declared.scope.Scope as source_scope
 use Rattle.verilog_read.specs.declared.scope.Meaning as source_meaning
 use Rattle.verilog_read.specs.declared.scope.Meaning.TheVariants as m
 use Rattle.verilog_read.specs.Known.{find, meaning, meaning_found, AddsName, capped_width}
-use Rattle.verilog_read.specs.Draft.{AreFlags, IsSound, IsDraft, is_misnamed_by, is_misplaced_by, input_misnamed_by, output_misnamed_by, own_misnamed_by}
+use Rattle.verilog_laws.specs.Sound.{IsSound}
+use Rattle.verilog_read.specs.Draft.{AreFlags, IsDraft, is_misnamed_by, is_misplaced_by, input_misnamed_by, output_misnamed_by, own_misnamed_by}
 use Rattle.verilog_read.proofs.Places.{none_of, length_more}
 use Rattle.verilog_read.proofs.Looked.{entry, found_more}
 use Rattle.verilog_read.proofs.Meanings.{some_is}
-use Rattle.verilog_read.proofs.Ports.{any_map, has_few}
-use Rattle.verilog_read.proofs.Sound.{clock_more, input_more, sound_clock, sound_input, sound_output, sound_wire, sound_reg, sound_header, given_at}
+use Rattle.verilog_read.proofs.Ports.{any_map}
+use Rattle.verilog_read.proofs.Given.{given_at}
 
 -- ---- the rules, one by one
 
@@ -181,12 +182,19 @@ too_far n h = omega (arith, h)
 
 -- ---- ports
 
+-- with the clock or the reset declared, and with an input
+abbrev clock_more : SoFar → List ℕ → SoFar
+clock_more x n = with_entry n ClockOrReset (record x { to_declare = drop 1 x.to_declare })
+
+abbrev input_more : SoFar → List ℕ → SoFar
+input_more x n = with_entry n (InputAt (length x.inputs)) (record x { to_declare = drop 1 x.to_declare; inputs = x.inputs ++ drop 3 n ∷ [] })
+
 module _ (d new : source.Draft) (x : SoFar) (n : List ℕ) (h : IsDraft d x) where
-  pub clock_kept : first_rule x (g.Input n) ≡ None → is_clock_or_reset n ≡ true → AddsName d.scope new.scope n m.ClockOrReset →
+  pub clock_kept : IsSound (after x (g.Input n)) → first_rule x (g.Input n) ≡ None → is_clock_or_reset n ≡ true → AddsName d.scope new.scope n m.ClockOrReset →
       new.to_declare.now ≡ drop 1 d.to_declare.now → new.inputs.items ≡ d.inputs.items → new.outputs.items ≡ d.outputs.items → new.wires.items ≡ d.wires.items → new.regs.items ≡ d.regs.items →
       new.assigns.items ≡ d.assigns.items → new.given_wires.items ≡ d.given_wires.items → new.given_outputs.items ≡ d.given_outputs.items → new.updated.items ≡ d.updated.items → new.bits ≡ d.bits →
       IsDraft new (after x (g.Input n))
-  clock_kept rule clock scope td ins outs wires regs given gw go up bits =
+  clock_kept sound rule clock scope td ins outs wires regs given gw go up bits =
       let k = keeps x (g.Input n) rule in
       let p = port_parts x n (is_clock_or_reset n || is_input_port n) k.name in
       let same : after x (g.Input n) ≡ clock_more x n = ap (λ (b : Bool). cond b (clock_more x n) (input_more x n)) clock in
@@ -202,14 +210,14 @@ module _ (d new : source.Draft) (x : SoFar) (n : List ℕ) (h : IsDraft d x) whe
         given_outputs = subst (λ (fs : List Bool). AreFlags fs (length x.outputs) (λ o. is_given x.assigns (target.Out o))) (sym go) h.given_outputs;
         updated = up ∙ h.updated;
         bits = bits ∙ h.bits;
-        sound = sound_clock x n h.sound p.fresh p.next clock;
+        sound = subst IsSound same sound;
       })
 
-  pub input_kept : (at : ℕ) (name : List ℕ) → first_rule x (g.Input n) ≡ None → is_clock_or_reset n ≡ false → at ≡ length d.inputs.items → name ≡ drop 3 n → AddsName d.scope new.scope n (m.Input at) →
+  pub input_kept : (at : ℕ) (name : List ℕ) → IsSound (after x (g.Input n)) → first_rule x (g.Input n) ≡ None → is_clock_or_reset n ≡ false → at ≡ length d.inputs.items → name ≡ drop 3 n → AddsName d.scope new.scope n (m.Input at) →
       new.to_declare.now ≡ drop 1 d.to_declare.now → new.inputs.items ≡ d.inputs.items ++ name ∷ [] → new.outputs.items ≡ d.outputs.items → new.wires.items ≡ d.wires.items → new.regs.items ≡ d.regs.items →
       new.assigns.items ≡ d.assigns.items → new.given_wires.items ≡ d.given_wires.items → new.given_outputs.items ≡ d.given_outputs.items → new.updated.items ≡ d.updated.items → new.bits ≡ d.bits →
       IsDraft new (after x (g.Input n))
-  input_kept at name rule clock place named scope td ins outs wires regs given gw go up bits =
+  input_kept at name sound rule clock place named scope td ins outs wires regs given gw go up bits =
       let k = keeps x (g.Input n) rule in
       let p = port_parts x n (is_clock_or_reset n || is_input_port n) k.name in
       let port : is_input_port n ≡ true = ap (λ (b : Bool). b || is_input_port n) (sym clock) ∙ p.good_name in
@@ -227,14 +235,14 @@ module _ (d new : source.Draft) (x : SoFar) (n : List ℕ) (h : IsDraft d x) whe
         given_outputs = subst (λ (fs : List Bool). AreFlags fs (length x.outputs) (λ o. is_given x.assigns (target.Out o))) (sym go) h.given_outputs;
         updated = up ∙ h.updated;
         bits = bits ∙ h.bits;
-        sound = sound_input x n h.sound p.fresh p.next port;
+        sound = subst IsSound same sound;
       })
 
-  pub output_kept : (at : ℕ) (name : List ℕ) → first_rule x (g.Output n) ≡ None → at ≡ length d.outputs.items → name ≡ drop 4 n → AddsName d.scope new.scope n (m.Output at) →
+  pub output_kept : (at : ℕ) (name : List ℕ) → IsSound (after x (g.Output n)) → first_rule x (g.Output n) ≡ None → at ≡ length d.outputs.items → name ≡ drop 4 n → AddsName d.scope new.scope n (m.Output at) →
       new.to_declare.now ≡ drop 1 d.to_declare.now → new.inputs.items ≡ d.inputs.items → new.outputs.items ≡ d.outputs.items ++ name ∷ [] → new.wires.items ≡ d.wires.items → new.regs.items ≡ d.regs.items →
       new.assigns.items ≡ d.assigns.items → new.given_wires.items ≡ d.given_wires.items → new.given_outputs.items ≡ d.given_outputs.items ++ false ∷ [] → new.updated.items ≡ d.updated.items → new.bits ≡ d.bits →
       IsDraft new (after x (g.Output n))
-  output_kept at name rule place named scope td ins outs wires regs given gw go up bits =
+  output_kept at name sound rule place named scope td ins outs wires regs given gw go up bits =
       let k = keeps x (g.Output n) rule in
       let p = port_parts x n (is_output_port n) k.name in
       let here : at ≡ length x.outputs = place ∙ ap length h.outputs in
@@ -251,16 +259,16 @@ module _ (d new : source.Draft) (x : SoFar) (n : List ℕ) (h : IsDraft d x) whe
             (flags_more d.given_outputs.items (length x.outputs) (length (x.outputs ++ drop 4 n ∷ [])) (λ o. is_given x.assigns (target.Out o)) h.given_outputs (length_more x.outputs (drop 4 n)) (no_given x (target.Out (length x.outputs)) h.sound (λ t. too_far (length x.outputs) t)));
         updated = up ∙ h.updated;
         bits = bits ∙ h.bits;
-        sound = sound_output x n h.sound p.fresh p.next p.good_name;
+        sound = sound;
       }
 
   -- ---- wires and registers
 
-  pub wire_kept : (at : ℕ) (name : List ℕ) → first_rule x (g.Wire n) ≡ None → at ≡ length d.wires.items → name ≡ n → AddsName d.scope new.scope n (m.Wire at) →
+  pub wire_kept : (at : ℕ) (name : List ℕ) → IsSound (after x (g.Wire n)) → first_rule x (g.Wire n) ≡ None → at ≡ length d.wires.items → name ≡ n → AddsName d.scope new.scope n (m.Wire at) →
       new.to_declare.now ≡ d.to_declare.now → new.inputs.items ≡ d.inputs.items → new.outputs.items ≡ d.outputs.items → new.wires.items ≡ d.wires.items ++ name ∷ [] → new.regs.items ≡ d.regs.items →
       new.assigns.items ≡ d.assigns.items → new.given_wires.items ≡ d.given_wires.items ++ false ∷ [] → new.given_outputs.items ≡ d.given_outputs.items → new.updated.items ≡ d.updated.items → new.bits ≡ d.bits →
       IsDraft new (after x (g.Wire n))
-  wire_kept at name rule place named scope td ins outs wires regs given gw go up bits =
+  wire_kept at name sound rule place named scope td ins outs wires regs given gw go up bits =
       let k = keeps x (g.Wire n) rule in
       let p = own_parts x n k.name in
       let here : at ≡ length x.wires = place ∙ ap length h.wires in
@@ -277,14 +285,14 @@ module _ (d new : source.Draft) (x : SoFar) (n : List ℕ) (h : IsDraft d x) whe
         given_outputs = subst (λ (fs : List Bool). AreFlags fs (length x.outputs) (λ o. is_given x.assigns (target.Out o))) (sym go) h.given_outputs;
         updated = up ∙ h.updated;
         bits = bits ∙ h.bits;
-        sound = sound_wire x n h.sound p.0 p.1 (not_over 65536 (length x.wires + 1) k.limit);
+        sound = sound;
       }
 
-  pub reg_kept : (at : ℕ) (r : Register) (l : Option (List ℕ)) → first_rule x (g.Reg l n) ≡ None → at ≡ length d.regs.items → r ≡ record { name = n; width = capped_width l; next = Zero } → AddsName d.scope new.scope n (m.Reg at) →
+  pub reg_kept : (at : ℕ) (r : Register) (l : Option (List ℕ)) → IsSound (after x (g.Reg l n)) → first_rule x (g.Reg l n) ≡ None → at ≡ length d.regs.items → r ≡ record { name = n; width = capped_width l; next = Zero } → AddsName d.scope new.scope n (m.Reg at) →
       new.to_declare.now ≡ d.to_declare.now → new.inputs.items ≡ d.inputs.items → new.outputs.items ≡ d.outputs.items → new.wires.items ≡ d.wires.items → new.regs.items ≡ d.regs.items ++ r ∷ [] →
       new.assigns.items ≡ d.assigns.items → new.given_wires.items ≡ d.given_wires.items → new.given_outputs.items ≡ d.given_outputs.items → new.updated.items ≡ d.updated.items ++ false ∷ [] → new.bits ≡ d.bits + capped_width l →
       IsDraft new (after x (g.Reg l n))
-  reg_kept at r l rule place made scope td ins outs wires regs given gw go up bits =
+  reg_kept at r l sound rule place made scope td ins outs wires regs given gw go up bits =
       let k = keeps x (g.Reg l n) rule in
       let p = own_parts x n k.name in
       let w = width_of l in
@@ -306,17 +314,14 @@ module _ (d new : source.Draft) (x : SoFar) (n : List ℕ) (h : IsDraft d x) whe
         given_outputs = subst (λ (fs : List Bool). AreFlags fs (length x.outputs) (λ o. is_given x.assigns (target.Out o))) (sym go) h.given_outputs;
         updated = up ∙ ap (λ (fs : List Bool). fs ++ false ∷ []) h.updated ∙ sym (map-append (λ r. is_some r.next) x.regs (q ∷ []));
         bits = let b = h.bits in omega (arith, bits, b, cap, sum);
-        sound = sound_reg x n h.sound p.0 w p.1 some few;
+        sound = sound;
       }
 
 -- ---- the header
 
-pub header_kept : (d new : source.Draft) (x : SoFar) (name : List ℕ) (ports : List (List ℕ)) → IsDraft d nothing_yet → first_rule x (g.Header name ports) ≡ None → ports_now new.to_declare.now ≡ ports →
+pub header_kept : (d new : source.Draft) (x : SoFar) (name : List ℕ) (ports : List (List ℕ)) → IsDraft d nothing_yet → IsSound (after x (g.Header name ports)) → first_rule x (g.Header name ports) ≡ None → ports_now new.to_declare.now ≡ ports →
     new ≡ record d { to_declare = new.to_declare } → IsDraft new (after x (g.Header name ports))
-header_kept d new x name ports h rule td same =
-    let k = keeps x (g.Header name ports) rule in
-    let p = or_parts (not (bytes_eq name (codes "race"))) (not (j.are_ports ports)) k.name in
-    let few = has_few ports (not_false (j.are_ports ports) p.1) (not_false (j.are_few ports) k.limit) in
+header_kept d new x name ports h sound rule td same =
     subst (λ (e : source.Draft). IsDraft e (record nothing_yet { to_declare = ports })) (sym same) (record {
       to_declare = td;
       names = h.names;
@@ -329,5 +334,5 @@ header_kept d new x name ports h rule td same =
       given_outputs = h.given_outputs;
       updated = h.updated;
       bits = h.bits;
-      sound = sound_header ports few.few_inputs few.few_outputs;
+      sound = sound;
     })

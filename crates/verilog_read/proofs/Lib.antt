@@ -1,14 +1,13 @@
 pub mod Numbers
 pub mod Places
 pub mod Looked
-pub mod Growing
 pub mod Meanings
 pub mod Ports
-pub mod Sound
+pub mod Given
 pub mod Kept
 pub mod Verdicts
 pub mod Assigned
 pub mod Zeros
-pub mod Finished
+pub mod Flags
 pub mod Reached
 pub mod Read

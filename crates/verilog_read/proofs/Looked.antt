@@ -21,13 +21,6 @@ eq_comm a b = either (bytes_eq a b) (bytes_eq b a) refl refl where
 abbrev pub entry : List ℕ → Meaning → Entry
 entry n m = record { name = n; meaning = m }
 
-pub found_kept : (es fs : List Entry) (t : List ℕ) (m : Meaning) → found t es ≡ Some m → found t (es ++ fs) ≡ Some m
-found_kept [] fs t m h = absurd cc
-found_kept (e ∷ es) fs t m h = first (bytes_eq t e.name) (found_kept es fs t m) h where
-  first : (b : Bool) → (found t es ≡ Some m → found t (es ++ fs) ≡ Some m) → cond b (Some e.meaning) (found t es) ≡ Some m → cond b (Some e.meaning) (found t (es ++ fs)) ≡ Some m
-  first true again h = h
-  first false again h = again h
-
 pub found_new : (es : List Entry) (n : List ℕ) (m : Meaning) → found n es ≡ None → found n (es ++ entry n m ∷ []) ≡ Some m
 found_new [] n m h = ap (λ (b : Bool). cond b (Some m) None) (eq_refl n)
 found_new (e ∷ es) n m h = first (bytes_eq n e.name) (found_new es n m) h where
@@ -44,13 +37,3 @@ found_more es n t m h = either (bytes_eq n t) refl where
   either : (b : Bool) → bytes_eq n t ≡ b → found t (es ++ entry n m ∷ []) ≡ cond b (Some m) (found t es)
   either true e = subst (λ (z : List ℕ). found z (es ++ entry n m ∷ []) ≡ Some m) (eq_same n t e) (found_new es n m h)
   either false e = found_other es n t m (eq_comm t n ∙ e)
-
-pub found_split : (es : List Entry) (n t : List ℕ) (m k : Meaning) → found t (es ++ entry n m ∷ []) ≡ Some k → (found t es ≡ Some k) ⊎ (k ≡ m)
-found_split [] n t m k h = first (bytes_eq t n) h where
-  first : (b : Bool) → cond b (Some m) None ≡ Some k → (None ≡ Some k) ⊎ (k ≡ m)
-  first true e = inr cc
-  first false e = inl e
-found_split (e ∷ es) n t m k h = first (bytes_eq t e.name) (found_split es n t m k) h where
-  first : (b : Bool) → (found t (es ++ entry n m ∷ []) ≡ Some k → (found t es ≡ Some k) ⊎ (k ≡ m)) → cond b (Some e.meaning) (found t (es ++ entry n m ∷ [])) ≡ Some k → (cond b (Some e.meaning) (found t es) ≡ Some k) ⊎ (k ≡ m)
-  first true again h = inl h
-  first false again h = again h

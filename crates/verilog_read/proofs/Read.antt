@@ -8,7 +8,7 @@ use Rattle.rl_text.specs.Lexemes.{Lexeme, lexemes}
 use Rattle.rl_text.specs.Tokens.{line_behind, AreTokens, IsBad}
 use Rattle.verilog_text.specs.declared.rule.Rule.{Rule}
 use Rattle.verilog_text.specs.declared.rule.Rule.TheVariants as rule
-use Rattle.verilog_text.specs.Circuit.{Circuit}
+use Rattle.circuit.specs.Circuit.{Circuit}
 use Rattle.verilog_text.specs.Statements.{Statement, AreStatements, FailsAt}
 use Rattle.verilog_text.specs.Spelling.{FirstBroken, AreModule, SpellsModule, BreaksFirst, IsBroken}
 use Rattle.verilog_text.specs.Judging.{SoFar, nothing_yet, after, first_of, breaks_name, breaks_order, breaks_width, breaks_limit}

@@ -1,13 +1,13 @@
 -- What the reader keeps of the statements so far.
 use Rattle.std.specs.Prelude.{◌≡◌, ◌≤◌, ◌<◌, ℕ, ◌+◌, Bool, true, false, not, ◌&&◌, ◌||◌, nat_lt, List, length, map, count_by, slice_get, slice_index_or, slice_set, Option, Some, None, is_some, Result, Ok, Err, bytes_eq}
 use Rattle.std.specs.List.{list_all, list_any}
-use Rattle.verilog_text.specs.declared.bit.Target.{Target}
-use Rattle.verilog_text.specs.declared.bit.Target.TheVariants as target
-use Rattle.verilog_text.specs.Circuit.{Logic, Assignment, Register, Circuit, names_wire}
-use Rattle.verilog_text.specs.Names.{in_name, out_name, is_port_name, is_own_name}
-use Rattle.verilog_text.specs.Valid.{IsTarget, IsInRange, IsValid}
+use Rattle.circuit.specs.declared.bit.Target.{Target}
+use Rattle.circuit.specs.declared.bit.Target.TheVariants as target
+use Rattle.circuit.specs.Circuit.{Logic, Register}
+use Rattle.circuit.specs.Names.{is_own_name}
 use Rattle.verilog_text.specs.Statements.{Statement}
 use Rattle.verilog_text.specs.Spelling.{AllStand}
+use Rattle.verilog_laws.specs.Sound.{IsSound}
 use Rattle.verilog_read.specs.declared.error.VerilogError.{VerilogError}
 use Rattle.verilog_read.specs.Outcome.{IsFirstBroken}
 use Rattle.verilog_text.specs.Grammar.{Form, Header, Expression, Next}
@@ -18,58 +18,6 @@ use Rattle.verilog_read.specs.declared.scope.Meaning.TheVariants as m
 use Rattle.verilog_read.specs.declared.draft.StepError.{StepError}
 use Rattle.verilog_read.specs.declared.draft.StepError.TheVariants.{Broken, NoMemory}
 use Rattle.verilog_read.specs.Known.{find, meaning_found, is_reg, knows_by, given_by, names_reg_by}
-
--- ---- statements that break no rule
-
--- the place that a name stands for is one of the module's
-abbrev pub HasPlace : SoFar → Meaning → Type 0
-HasPlace x ClockOrReset = Unit {0}
-HasPlace x (InputAt i) = i < length x.inputs
-HasPlace x (OutputAt o) = o < length x.outputs
-HasPlace x (WireAt w) = w < length x.wires
-HasPlace x (RegAt r) = r < length x.regs
-
--- each of the names passes the test, and stands for its place
-abbrev pub AreNamed : SoFar → (List ℕ → List ℕ) → (List ℕ → Bool) → (ℕ → Meaning) → List (List ℕ) → Type 0
-AreNamed x whole test meaning names = (k : ℕ) (n : List ℕ) → slice_get names k ≡ Some n →
-    (test n ≡ true) × (found (whole n) x.entries ≡ Some (meaning k))
-
--- what a register takes names what the module has
-abbrev pub NextInRange : Circuit → Option Logic → Type 0
-NextInRange m None = Unit {0}
-NextInRange m (Some bit) = IsInRange m bit
-
--- a register by its place
-pub record IsRegister (x : SoFar) (k : ℕ) (r : Declared) : Type 0 where
-  pub own : is_own_name r.name ≡ true
-  pub named : found r.name x.entries ≡ Some (RegAt k)
-  pub some_bit : 1 ≤ r.width
-  pub few_bits : r.width ≤ 65536
-  pub next : NextInRange (module_of x) r.next
-
--- an assign by its place
-pub record IsAssign (x : SoFar) (k : ℕ) (a : Assignment) : Type 0 where
-  pub has_target : IsTarget (module_of x) a.target
-  pub in_range : IsInRange (module_of x) a.bit
-  pub once : (j : ℕ) (b : Assignment) → slice_get x.assigns j ≡ Some b → a.target ≡ b.target → k ≡ j
-  pub earlier : (w : ℕ) → names_wire a.bit w ≡ true →
-      (i : ℕ) × (b : Assignment) × (i < k) × (slice_get x.assigns i ≡ Some b) × (b.target ≡ target.Wire w)
-
--- what is true of statements that break no rule
-pub record IsSound (x : SoFar) : Type 0 where
-  pub few_inputs : count_by is_input_port x.to_declare + length x.inputs ≤ 64
-  pub few_outputs : count_by is_output_port x.to_declare + length x.outputs ≤ 64
-  pub few_wires : length x.wires ≤ 65536
-  pub few_bits : bits_of x.regs ≤ 65536
-  pub few_regs : length x.regs ≤ bits_of x.regs
-  pub places : (n : List ℕ) (m : Meaning) → found n x.entries ≡ Some m → HasPlace x m
-  pub inputs : AreNamed x in_name is_port_name InputAt x.inputs
-  pub outputs : AreNamed x out_name is_port_name OutputAt x.outputs
-  pub wires : AreNamed x (λ n. n) is_own_name WireAt x.wires
-  pub regs : (k : ℕ) (r : Declared) → slice_get x.regs k ≡ Some r → IsRegister x k r
-  pub assigns : (k : ℕ) (a : Assignment) → slice_get x.assigns k ≡ Some a → IsAssign x k a
-
--- ---- what a draft is of
 
 -- the flags of the places below n say what f says
 pub record AreFlags (flags : List Bool) (n : ℕ) (f : ℕ → Bool) : Type 0 where
@@ -97,11 +45,12 @@ IsOfSome d = (x : SoFar) × IsDraft d x
 
 -- a statement that breaks no rule leads from one draft to the other
 abbrev pub Adds : source.Draft → Form → source.Draft → Type 0
-Adds old f new = (x : SoFar) → IsDraft old x → first_rule x f ≡ None → IsDraft new (after x f)
+Adds old f new = (x : SoFar) → IsDraft old x → IsSound (after x f) → first_rule x f ≡ None → IsDraft new (after x f)
 
 -- the statement breaks no rule, and the draft has it more; or it breaks this rule first
 abbrev pub Judges : source.Draft → Form → source.Draft → Result (Unit {0}) StepError → Type 0
-Judges old f new (Ok u) = (x : SoFar) → IsDraft old x → (first_rule x f ≡ None) × IsDraft new (after x f)
+Judges old f new (Ok u) = (x : SoFar) → IsDraft old x → (first_rule x f ≡ None → IsSound (after x f)) →
+    (first_rule x f ≡ None) × IsDraft new (after x f)
 Judges old f new (Err (Broken r)) = (x : SoFar) → IsDraft old x → first_rule x f ≡ Some r
 Judges old f new (Err NoMemory) = Unit {0}
 
@@ -110,9 +59,9 @@ abbrev pub IsReady : source.Draft → Form → Type 0
 IsReady d (Header n ports) = IsDraft d nothing_yet
 IsReady d _ = IsOfSome d
 
--- all statements break no rule, and the draft is of them, whose module is valid; or the error is the first broken rule
+-- all statements break no rule, and the draft is of them; or the error is the first broken rule
 abbrev pub IsWhole : List Statement → Result source.Draft VerilogError → Type 0
-IsWhole ss (Ok d) = (x : SoFar) × AllStand nothing_yet ss x × IsDraft d x × IsValid (module_of x)
+IsWhole ss (Ok d) = (x : SoFar) × AllStand nothing_yet ss x × IsDraft d x
 IsWhole ss (Err e) = IsFirstBroken ss e
 
 -- ---- rules by a draft

@@ -6,8 +6,8 @@ use Rattle.std.specs.BTreeMap.{get_by}
 use Rattle.verilog_read.specs.declared.scope.Scope as source
 use Rattle.verilog_read.specs.declared.scope.Meaning.{Meaning}
 use Rattle.verilog_read.specs.declared.scope.Meaning.TheVariants as m
-use Rattle.verilog_text.specs.Circuit as c
-use Rattle.verilog_text.specs.Circuit.{Logic, Register}
+use Rattle.circuit.specs.Circuit as c
+use Rattle.circuit.specs.Circuit.{Logic, Register}
 use Rattle.verilog_text.specs.Grammar.{Expression, Low, High, Name, Bit, Not, Group, And, Or, Next, Whole, Shifted}
 use Rattle.verilog_text.specs.Judging as j
 use Rattle.verilog_text.specs.Judging.{number_of}

@@ -2,7 +2,7 @@
 ghost use Rattle.std.specs.Prelude.{◌≡◌, ◌&&◌, ◌||◌, not, true, is_some, slice_get, slice_set, decimal, bytes_eq, OnOk};
 ghost use Rattle.verilog_text.specs.Grammar as g;
 ghost use Rattle.verilog_text.specs.Judging as j;
-ghost use Rattle.verilog_text.specs.View.{logic};
+ghost use Rattle.circuit.specs.View.{logic};
 ghost use Rattle.verilog_syntax.specs.View as v;
 ghost use Rattle.verilog_read.specs.Known.{find, meaning_found, is_reg, knows_by, given_by, is_flagged_reg, names_reg_by};
 ghost use Rattle.verilog_read.specs.Draft.{IsOfSome, Adds, Judges, is_assigned_by, is_update_reg, update_at, set_register, assign_misnamed_by, assign_misordered_by, always_misnamed_by};

@@ -1,7 +1,7 @@
 //! What an expression, as it is written, comes to.
 ghost use Rattle.std.specs.Prelude.{◌≡◌, false, min, slice_get, slice_index_or, IfOk};
 ghost use Rattle.verilog_text.specs.Judging.{number_of};
-ghost use Rattle.verilog_text.specs.View.{logic};
+ghost use Rattle.circuit.specs.View.{logic};
 ghost use Rattle.verilog_syntax.specs.View.{expression};
 ghost use Rattle.verilog_read.specs.Known.{find, knows_by, given_by, fits_by, resolved_by, is_one_bit_reg, has_bit_reg};
 

@@ -14,6 +14,7 @@ use crate::draft::{Draft, StepError};
 use crate::error::VerilogError;
 use crate::scope::Scope;
 use std::alloc::Global;
+use verilog_laws::{statements_are_valid, statements_stay_sound};
 use verilog_syntax::{Form, Statement};
 use verilog_text::{Module, Rule};
 
@@ -86,6 +87,7 @@ fn read_all<'b, 'a>(alloc: Global, all: &'b [Statement<'a>]) -> Result<Draft<'b,
     requires { AreInOrder Start (statements all.now) }
     ensures { IsWhole (statements all.now) result }
 {
+    statements_stay_sound();
     let mut draft = Draft {
         to_declare: no_ports(),
         scope: Scope::new(alloc),
@@ -115,6 +117,7 @@ pub fn judge(alloc: Global, all: &[Statement<'_>]) -> Result<Module, VerilogErro
     ensures module { IfOk result (λ m. AreModule (statements all.now) m) }
     ensures cause { IfErr result (IsFirstBroken (statements all.now)) }
 {
+    statements_are_valid();
     let draft = match read_all(alloc, all) {
         Ok(draft) => draft,
         Err(error) => return Err(error),

@@ -1,7 +1,7 @@
 //! The names that a module may have, and the ports of a header.
 ghost use Rattle.std.specs.Prelude.{◌≡◌, ◌≤◌, ◌&&◌, codes, map, drop, length, bytes_eq};
 ghost use Rattle.std.specs.List.{list_all, list_any, prefix_len};
-ghost use Rattle.verilog_text.specs.Names.{is_port_byte, is_port_name, is_reserved, is_own_byte, is_own_name};
+ghost use Rattle.circuit.specs.Names.{is_port_byte, is_port_name, is_reserved, is_own_byte, is_own_name};
 ghost use Rattle.verilog_text.specs.Judging.{is_clock_or_reset, is_input_port, is_output_port, are_ports, is_few, are_few, is_next};
 
 fn is_port_byte(b: u8) -> bool

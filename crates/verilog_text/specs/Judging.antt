@@ -1,14 +1,14 @@
 -- The rules that each statement of a module keeps, with respect to those before it.
 use Rattle.std.specs.Prelude.{ℕ, ◌+◌, ◌-◌, ◌*◌, Bool, true, false, not, ◌&&◌, ◌||◌, ◌==◌, nat_lt, nat_le, if◌then◌else◌, List, [], ◌∷◌, ◌++◌, length, map, take, drop, sum_by, Option, Some, None, is_some, slice_get, slice_set, codes, decimal, bytes_eq}
 use Rattle.std.specs.List.{list_any, list_all, prefix_len}
-use Rattle.verilog_text.specs.declared.bit.Target.{Target}
-use Rattle.verilog_text.specs.declared.bit.Target.TheVariants as target
+use Rattle.circuit.specs.declared.bit.Target.{Target}
+use Rattle.circuit.specs.declared.bit.Target.TheVariants as target
 use Rattle.verilog_text.specs.declared.rule.Rule.{Rule}
 use Rattle.verilog_text.specs.declared.rule.Rule.TheVariants as rule
-use Rattle.verilog_text.specs.Circuit as c
-use Rattle.verilog_text.specs.Circuit.{Logic, Assignment, Register, Circuit, circuit}
-use Rattle.verilog_text.specs.Names.{is_port_name, is_own_name}
-use Rattle.verilog_text.specs.Meaning.{upto}
+use Rattle.circuit.specs.Circuit as c
+use Rattle.circuit.specs.Circuit.{Logic, Assignment, Register, Circuit, circuit}
+use Rattle.circuit.specs.Names.{is_port_name, is_own_name}
+use Rattle.circuit.specs.Meaning.{upto}
 use Rattle.verilog_text.specs.Grammar.{Expression, Low, High, Name, Bit, Not, Group, And, Or, Next, Whole, Shifted, Form, Header, Input, Output, Wire, Reg, Assign, Always, End}
 
 -- ---- what some statements declare

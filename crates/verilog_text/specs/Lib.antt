@@ -1,16 +1,6 @@
-pub mod Circuit
-pub mod Code
-pub mod View
-pub mod Names
-pub mod Valid
-pub mod Numbering
-pub mod Meaning
-pub mod Tested
 pub mod Text
-pub mod Repeats
 pub mod Grammar
 pub mod Statements
 pub mod Reading
 pub mod Judging
 pub mod Spelling
-pub mod Printed

@@ -1,9 +1,10 @@
 -- The text of a module.
 use Rattle.std.specs.Prelude.{ℕ, ◌-◌, ◌==◌, Bool, true, false, List, [], ◌++◌, codes, decimal, if◌then◌else◌, flat_map, slice_get, Option, Some, None}
-use Rattle.verilog_text.specs.declared.bit.Target.{Target}
-use Rattle.verilog_text.specs.declared.bit.Target.TheVariants as target
-use Rattle.verilog_text.specs.Circuit.{Logic, Zero, One, Input, Wire, Reg, Not, And, Or, Assignment, Register, Circuit}
-use Rattle.verilog_text.specs.Names.{in_name, out_name}
+use Rattle.circuit.specs.declared.bit.Target.{Target}
+use Rattle.circuit.specs.declared.bit.Target.TheVariants as target
+use Rattle.circuit.specs.Circuit.{Logic, Zero, One, Input, Wire, Reg, Not, And, Or, Assignment, Register, Circuit}
+use Rattle.circuit.specs.Names.{in_name, out_name}
+use Rattle.circuit.specs.Depth.{is_compound}
 
 -- the name at a place of a list
 abbrev pub name_text : Option (List ℕ) → List ℕ
@@ -19,12 +20,7 @@ abbrev pub register_bit_text : Option Register → ℕ → List ℕ
 register_bit_text None k = []
 register_bit_text (Some r) k = bit_text r k
 
--- whether an expression stands in parentheses where it is an operand: it is itself an `&` or an `|`
-abbrev pub is_compound : Logic → Bool
-is_compound (And x y) = true
-is_compound (Or x y) = true
-is_compound _ = false
-
+-- an operand, in parentheses or not
 abbrev pub in_parentheses : Bool → List ℕ → List ℕ
 in_parentheses false text = text
 in_parentheses true text = codes "(" ++ text ++ codes ")"
@@ -42,7 +38,7 @@ logic_text m (And x y) =
 logic_text m (Or x y) =
     in_parentheses (is_compound x) (logic_text m x) ++ codes " | " ++ in_parentheses (is_compound y) (logic_text m y)
 
--- an expression where it is an operand
+-- the same where it is an operand
 abbrev pub operand_text : Circuit → Logic → List ℕ
 operand_text m x = in_parentheses (is_compound x) (logic_text m x)
 

@@ -2,10 +2,9 @@
 
 ghost use Rattle.std.specs.Prelude.{◌≡◌, ◌++◌, OnOk, IfOk, decimal, flat_map, slice_get};
 ghost use Rattle.verilog_text.specs.Text as spec;
-ghost use Rattle.verilog_text.specs.View.{logic};
+ghost use Rattle.circuit.specs.View.{logic};
 
-use crate::bit::{Bit, Target};
-use crate::module::{Assign, Module, Reg};
+use circuit::{Assign, Bit, Module, Reg, Target};
 use itoa::Buffer;
 use rl_text::Name;
 use rl_time::NoMemory;

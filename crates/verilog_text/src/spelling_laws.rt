@@ -3,7 +3,7 @@
 ghost use Rattle.std.specs.Prelude.{◌≡◌, ℕ, List, Some};
 ghost use Rattle.rl_text.specs.Lexemes.{Lexeme};
 ghost use Rattle.verilog_text.specs.declared.rule.Rule.{Rule};
-ghost use Rattle.verilog_text.specs.Circuit.{Circuit};
+ghost use Rattle.circuit.specs.Circuit.{Circuit};
 ghost use Rattle.verilog_text.specs.Statements.{Stage, Statement, Opens};
 ghost use Rattle.verilog_text.specs.Reading.{statement_at};
 ghost use Rattle.verilog_text.specs.Spelling.{SpellsModule, IsBroken};

@@ -1,7 +1,8 @@
 ghost use Rattle.std.specs.Prelude.{◌≡◌, IfOk, map};
-ghost use Rattle.verilog_text.specs.Circuit.{Not, And, Or};
-ghost use Rattle.verilog_text.specs.View.{logic};
+ghost use Rattle.circuit.specs.Circuit.{Not, And, Or};
+ghost use Rattle.circuit.specs.View.{logic};
 
+use crate::validity_laws::test_shows_validity;
 use crate::{Assign, Bit, Module, Reg, Target, print_module};
 use rl_text::Name;
 use rl_time::NoMemory;
@@ -38,6 +39,7 @@ fn or(alloc: Global, x: Bit, y: Bit) -> Result<Bit, NoMemory>
 
 // The first of two rises.
 fn first_of_two(alloc: Global) -> Result<Module, NoMemory> {
+    test_shows_validity();
     let inputs = names(alloc, &["a", "b"])?;
     let outputs = names(alloc, &["y"])?;
     let wires = names(alloc, &["w0"])?;
@@ -51,6 +53,7 @@ fn first_of_two(alloc: Global) -> Result<Module, NoMemory> {
 
 // An output that is an input.
 fn copy(alloc: Global) -> Result<Module, NoMemory> {
+    test_shows_validity();
     let inputs = names(alloc, &["a"])?;
     let outputs = names(alloc, &["y"])?;
     let mut assigns = Vec::new(alloc);
@@ -61,6 +64,7 @@ fn copy(alloc: Global) -> Result<Module, NoMemory> {
 
 // A rise of `a` while `b` is low, kept from then on.
 fn latch(alloc: Global) -> Result<Module, NoMemory> {
+    test_shows_validity();
     let inputs = names(alloc, &["a", "b"])?;
     let outputs = names(alloc, &["y"])?;
     let wires = names(alloc, &["w0"])?;
@@ -76,6 +80,7 @@ fn latch(alloc: Global) -> Result<Module, NoMemory> {
 
 // One input, 3 and 5 cycles later.
 fn delays(alloc: Global) -> Result<Module, NoMemory> {
+    test_shows_validity();
     let inputs = names(alloc, &["a"])?;
     let outputs = names(alloc, &["y", "z"])?;
     let mut regs = Vec::new(alloc);
@@ -89,6 +94,7 @@ fn delays(alloc: Global) -> Result<Module, NoMemory> {
 
 // Constants, and parentheses.
 fn constants(alloc: Global) -> Result<Module, NoMemory> {
+    test_shows_validity();
     let inputs = names(alloc, &["a"])?;
     let outputs = names(alloc, &["y", "z"])?;
     let some = or(alloc, Bit::Input(0), Bit::One)?;
@@ -102,6 +108,7 @@ fn constants(alloc: Global) -> Result<Module, NoMemory> {
 
 // One input, as many cycles later as a register may have bits.
 fn longest_delay(alloc: Global) -> Result<Module, NoMemory> {
+    test_shows_validity();
     let inputs = names(alloc, &["a"])?;
     let outputs = names(alloc, &["y"])?;
     let mut regs = Vec::new(alloc);
@@ -114,6 +121,7 @@ fn longest_delay(alloc: Global) -> Result<Module, NoMemory> {
 
 // Every operator in `|`, on the left and on the right.
 fn nested_in_or(alloc: Global) -> Result<Module, NoMemory> {
+    test_shows_validity();
     let inputs = names(alloc, &["a", "b"])?;
     let outputs = names(alloc, &["x", "y", "z"])?;
     let either = or(alloc, Bit::Input(0), Bit::Input(1))?;
@@ -135,6 +143,7 @@ fn nested_in_or(alloc: Global) -> Result<Module, NoMemory> {
 
 // Every operator in `&`, on the left and on the right.
 fn nested_in_and(alloc: Global) -> Result<Module, NoMemory> {
+    test_shows_validity();
     let inputs = names(alloc, &["a", "b"])?;
     let outputs = names(alloc, &["x", "y", "z"])?;
     let either = or(alloc, Bit::Input(0), Bit::Input(1))?;
@@ -156,6 +165,7 @@ fn nested_in_and(alloc: Global) -> Result<Module, NoMemory> {
 
 // Every operator in `~`.
 fn nested_in_not(alloc: Global) -> Result<Module, NoMemory> {
+    test_shows_validity();
     let inputs = names(alloc, &["a", "b"])?;
     let outputs = names(alloc, &["x", "y", "z"])?;
     let either = or(alloc, Bit::Input(0), Bit::Input(1))?;

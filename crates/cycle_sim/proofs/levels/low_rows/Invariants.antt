@@ -1,5 +1,5 @@
 use Rattle.std.proofs.Common.{◌≡◌, map, take}
-use Rattle.verilog_text.specs.Meaning.{row_at_start}
+use Rattle.circuit.specs.Meaning.{row_at_start}
 use Rattle.cycle_sim.proofs.levels.low_rows.Given as goal
 
 abbrev pub invariant-loop-reg : goal.invariant-loop-reg

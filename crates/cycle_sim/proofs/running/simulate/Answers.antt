@@ -1,7 +1,7 @@
 use Rattle.std.proofs.Common.{◌≡◌, ap, sym, ◌∙◌, arith, subst, map, false, length, vec_len, vec_capacity}
 use Rattle.std.proofs.lemmas.List.{length-map, length-replicate}
-use Rattle.verilog_text.specs.Circuit.{Circuit}
-use Rattle.verilog_text.specs.Meaning.{levels_at}
+use Rattle.circuit.specs.Circuit.{Circuit}
+use Rattle.circuit.specs.Meaning.{levels_at}
 use Rattle.rl_time.specs.Time.{has_risen}
 use Rattle.cycle_sim.specs.Standing.{IsStep}
 use Rattle.cycle_sim.specs.Digits.{with_digits}

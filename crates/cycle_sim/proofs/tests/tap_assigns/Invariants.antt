@@ -1,7 +1,7 @@
 use Rattle.std.proofs.Common.{◌≡◌, ℕ, map}
 use Rattle.std.specs.List.{range_with_len}
-use Rattle.verilog_text.specs.declared.bit.Target.TheVariants.{Out}
-use Rattle.verilog_text.specs.Circuit.{Assignment, Reg}
+use Rattle.circuit.specs.declared.bit.Target.TheVariants.{Out}
+use Rattle.circuit.specs.Circuit.{Assignment, Reg}
 use Rattle.cycle_sim.proofs.tests.tap_assigns.Given as goal
 
 -- an output that is a bit of register 0

@@ -1,7 +1,7 @@
 use Rattle.std.proofs.Common.{sym, subst, ap, ◌∙◌}
 use Rattle.std.specs.Prelude.{length, codes}
-use Rattle.verilog_text.specs.Names.{numbered}
-use Rattle.verilog_text.specs.Valid.{IsValid}
+use Rattle.circuit.specs.Names.{numbered}
+use Rattle.circuit.specs.Valid.{IsValid}
 use Rattle.gate_lower.specs.Rules.{output_names}
 use Rattle.gate_lower.proofs.Fitting.{module_is}
 use Rattle.gate_lower.proofs.Validity.{is_valid}

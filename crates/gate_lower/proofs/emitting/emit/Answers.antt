@@ -1,9 +1,9 @@
 use Rattle.std.proofs.Common.{◌≡◌, ◌∙◌, ap, sym, subst, length}
 use Rattle.std.proofs.lemmas.Result.{IfOk-weaker}
-use Rattle.verilog_text.specs.Circuit.{Circuit}
-use Rattle.verilog_text.specs.Circuit as circuit
-use Rattle.verilog_text.specs.Printed.{IsShallow}
-use Rattle.verilog_text.specs.Repeats.{HasNoRepeatedWire}
+use Rattle.circuit.specs.Circuit.{Circuit}
+use Rattle.circuit.specs.Circuit as circuit
+use Rattle.circuit.specs.Depth.{IsShallow}
+use Rattle.circuit.specs.Repeats.{HasNoRepeatedWire}
 use Rattle.gate_lower.specs.Rules as rules
 use Rattle.gate_lower.proofs.Repeats.{no_repeated_wire}
 use Rattle.gate_lower.proofs.Shallow.{shallow}

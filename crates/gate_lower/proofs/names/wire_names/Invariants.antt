@@ -1,5 +1,5 @@
 use Rattle.std.proofs.Common.{◌≡◌, codes}
-use Rattle.verilog_text.specs.Names.{numbered}
+use Rattle.circuit.specs.Names.{numbered}
 use Rattle.gate_lower.proofs.names.wire_names.Given as goal
 
 abbrev pub invariant-loop-number : goal.invariant-loop-number

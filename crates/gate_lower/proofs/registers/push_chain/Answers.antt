@@ -1,5 +1,5 @@
 use Rattle.std.proofs.Common.{◌≡◌, ◌+◌, ap, ◌∙◌}
-use Rattle.verilog_text.specs.View.{logic}
+use Rattle.circuit.specs.View.{logic}
 use Rattle.gate_lower.specs.Plain.{register_name}
 use Rattle.gate_lower.proofs.Fitting.{chain_step}
 use Rattle.gate_lower.proofs.registers.push_chain.Goals as goal

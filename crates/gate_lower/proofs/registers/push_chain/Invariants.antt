@@ -1,5 +1,5 @@
 use Rattle.std.proofs.Common.{◌≡◌, ◌+◌, ◌-◌, ◌++◌}
-use Rattle.verilog_text.specs.View.{logic}
+use Rattle.circuit.specs.View.{logic}
 use Rattle.gate_lower.specs.Plain.{chain}
 use Rattle.gate_lower.proofs.registers.push_chain.Given as goal
 

@@ -18,7 +18,7 @@ pub returns-then-not-is_update_at : goal.returns-then-not-is_update_at
 returns-then-not-is_update_at c = λ x h. always_wrong c.args.draft.now x h c.args.always.now.reset.now c.args.always.now.zero.now c.args.always.now.update.now (v.next c.args.always.now.next) c.get-reset.result c.get-reset.ensures c.always_misnamed.result c.always_misnamed.ensures c.if-always_misnamed.false c.is_updated.result c.is_updated.ensures c.if-is_updated.false c.is_update_at.result c.is_update_at.ensures c.if-not-is_update_at.true
 
 pub returns : goal.returns
-returns c = λ x h.
+returns c = λ x h more.
     let rule = always_stands c.args.draft.now x h c.args.always.now.reset.now c.args.always.now.zero.now c.args.always.now.update.now (v.next c.args.always.now.next) c.get-reset.result c.get-reset.ensures c.always_misnamed.result c.always_misnamed.ensures c.if-always_misnamed.false c.is_updated.result c.is_updated.ensures c.if-is_updated.false c.fits_widths.result c.is_update_at.result
     (c.fits_widths.ensures ∙ (λ i. fits_by (find c.args.draft.now.scope) (c.deref.ensures.value i) (c.expression_of.ensures i))) c.if-not-fits_widths.false c.is_update_at.ensures c.if-not-is_update_at.false in
-    (rule, c.in_ok-push_always.ensures x h rule)
+    (rule, c.in_ok-push_always.ensures x h (more rule) rule)

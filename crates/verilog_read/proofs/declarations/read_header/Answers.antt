@@ -14,6 +14,6 @@ pub returns-then-not-are_few : goal.returns-then-not-are_few
 returns-then-not-are_few c = λ x h. header_over x c.args.name.now (all_now c.args.ports.now) (sym c.is_race.ensures ∙ c.if-not-is_race.false) (sym c.are_ports.ensures ∙ c.if-not-are_ports.false) (sym c.are_few.ensures ∙ c.if-not-are_few.true)
 
 pub returns : goal.returns
-returns c = λ x h.
+returns c = λ x h more.
     let rule = header_stands x c.args.name.now (all_now c.args.ports.now) (sym c.is_race.ensures ∙ c.if-not-is_race.false) (sym c.are_ports.ensures ∙ c.if-not-are_ports.false) (sym c.are_few.ensures ∙ c.if-not-are_few.false) in
-    (rule, header_kept c.args.draft.now _ x c.args.name.now (all_now c.args.ports.now) c.requires rule refl refl)
+    (rule, header_kept c.args.draft.now _ x c.args.name.now (all_now c.args.ports.now) c.requires (more rule) rule refl refl)

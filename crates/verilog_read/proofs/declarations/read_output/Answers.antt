@@ -8,4 +8,4 @@ pub push_output-requires : goal.push_output-requires
 push_output-requires c = few_outputs c.args.draft.now c.requires.0 c.requires.1
 
 pub returns : goal.returns
-returns c = λ x h. let rule = output_stands c.args.draft.now x h c.args.name.now c.output_misnamed.result c.output_misnamed.ensures c.if-output_misnamed.false in (rule, c.in_ok-push_output.ensures x h rule)
+returns c = λ x h more. let rule = output_stands c.args.draft.now x h c.args.name.now c.output_misnamed.result c.output_misnamed.ensures c.if-output_misnamed.false in (rule, c.in_ok-push_output.ensures x h (more rule) rule)

@@ -23,7 +23,7 @@ pub push_reg-requires-clause-bits : goal.push_reg-requires-clause-bits
 push_reg-requires-clause-bits c = few_bits c.args.draft.now c.requires.0 c.requires.1
 
 pub returns : goal.returns
-returns c = λ x h.
+returns c = λ x h more.
     let rule = reg_stands c.args.draft.now x h (range c.args.last) c.args.name.now c.own_misnamed.result c.own_misnamed.ensures c.if-own_misnamed.false (sym c.is_narrow.ensures ∙ c.if-is_narrow.false)
     (omega (arith, c.width_of.ensures, c.if-draft-width_of-gt65536.false)) in
-    (rule, c.in_ok-push_reg.ensures x h rule)
+    (rule, c.in_ok-push_reg.ensures x h (more rule) rule)

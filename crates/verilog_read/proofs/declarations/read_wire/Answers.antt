@@ -12,4 +12,4 @@ pub push_wire-requires : goal.push_wire-requires
 push_wire-requires c = few_wires c.args.draft.now c.requires.0 c.requires.1
 
 pub returns : goal.returns
-returns c = λ x h. let rule = wire_stands c.args.draft.now x h c.args.name.now c.own_misnamed.result c.own_misnamed.ensures c.if-own_misnamed.false (omega (arith, c.len.ensures, c.args.draft.now.wires.ok, c.if-len-gt65536.false)) in (rule, c.in_ok-push_wire.ensures x h rule)
+returns c = λ x h more. let rule = wire_stands c.args.draft.now x h c.args.name.now c.own_misnamed.result c.own_misnamed.ensures c.if-own_misnamed.false (omega (arith, c.len.ensures, c.args.draft.now.wires.ok, c.if-len-gt65536.false)) in (rule, c.in_ok-push_wire.ensures x h (more rule) rule)

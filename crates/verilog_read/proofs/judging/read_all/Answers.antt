@@ -7,13 +7,13 @@ use Rattle.verilog_read.proofs.Reached.{Reached, begins, turn_ready, turn_goes_o
 use Rattle.verilog_read.proofs.judging.read_all.Goals as goal
 
 pub loop-statement-init : goal.loop-statement-init
-loop-statement-init c = begins _ (map statement c.args.all.now) c.requires c.new.ensures c.no_ports.ensures c.new-2.ensures.items c.new-3.ensures.items c.new-4.ensures.items c.new-5.ensures.items c.new-6.ensures.items c.new-7.ensures.items c.new-8.ensures.items c.new-9.ensures.items refl
+loop-statement-init c = begins _ (map statement c.args.all.now) c.statements_stay_sound.ensures.none c.requires c.new.ensures c.no_ports.ensures c.new-2.ensures.items c.new-3.ensures.items c.new-4.ensures.items c.new-5.ensures.items c.new-6.ensures.items c.new-7.ensures.items c.new-8.ensures.items c.new-9.ensures.items refl
 
 pub read_form-requires : goal.read_form-requires
 read_form-requires c = turn_ready c.loop-statement.draft c.args.all.now c.loop-statement.statement-index c.statement-item.result c.loop-statement-test.true c.statement-item.is c.loop-statement.invariant
 
 pub loop-statement-preserved : goal.loop-statement-preserved
-loop-statement-preserved c = turn_goes_on c.loop-statement.draft c.args.all.now c.loop-statement.statement-index c.statement-item.result c.loop-statement-test.true c.statement-item.is c.loop-statement.invariant c.read_form.new.draft c.in-Ok.ensures
+loop-statement-preserved c = turn_goes_on c.loop-statement.draft c.args.all.now c.loop-statement.statement-index c.statement-item.result c.loop-statement-test.true c.statement-item.is c.loop-statement.invariant c.statements_stay_sound.ensures.more c.read_form.new.draft c.in-Ok.ensures
 
 pub returns-in-Err-Broken : goal.returns-in-Err-Broken
 returns-in-Err-Broken c =

@@ -1,5 +1,5 @@
 use Rattle.std.proofs.Common.{◌≡◌, map, take}
-use Rattle.verilog_text.specs.Meaning.{level}
+use Rattle.circuit.specs.Meaning.{level}
 use Rattle.cycle_sim.proofs.levels.Levels.next_levels.Given as goal
 
 abbrev pub invariant-loop-place : goal.invariant-loop-place

@@ -1,7 +1,7 @@
 use Rattle.std.proofs.Common.{◌≡◌, ◌∙◌, refl, ap, arith, length}
 use Rattle.std.proofs.lemmas.Option.{slice_get_read}
-use Rattle.verilog_text.specs.Circuit.{Assignment}
-use Rattle.verilog_text.specs.Meaning.{level, put}
+use Rattle.circuit.specs.Circuit.{Assignment}
+use Rattle.circuit.specs.Meaning.{level, put}
 use Rattle.cycle_sim.proofs.Passes.{passing_on, passed_settled}
 use Rattle.cycle_sim.proofs.levels.Levels.settle.Goals as goal
 

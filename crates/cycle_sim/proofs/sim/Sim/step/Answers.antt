@@ -1,6 +1,6 @@
 use Rattle.std.proofs.Common.{◌≡◌, ◌∙◌, refl, ap, sym, subst, length}
 use Rattle.std.specs.List.{length_refill}
-use Rattle.verilog_text.specs.Circuit.{Circuit}
+use Rattle.circuit.specs.Circuit.{Circuit}
 use Rattle.cycle_sim.specs.declared.sim.Sim.TheInside.{Inside}
 use Rattle.cycle_sim.specs.Standing.{Standing}
 use Rattle.cycle_sim.specs.Levels.{HasAllLevels}

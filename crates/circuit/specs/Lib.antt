@@ -1,0 +1,10 @@
+pub mod Circuit
+pub mod Code
+pub mod View
+pub mod Names
+pub mod Valid
+pub mod Numbering
+pub mod Meaning
+pub mod Tested
+pub mod Depth
+pub mod Repeats

@@ -1,0 +1,12 @@
+//! What all gates that keep their rules have in common.
+
+ghost use Rattle.std.specs.Prelude.{List};
+ghost use Rattle.rl_time.specs.declared.time.Time.{Time};
+ghost use Rattle.gate_lower.specs.Netlist.{Netlist};
+ghost use Rattle.gate_lower.specs.Rules.{IsNetlist};
+ghost use Rattle.gate_lower.specs.Timing.{TimingsAgree};
+
+/// Gates that keep their rules have at most one timing under all times of the inputs.
+pub fn timings_agree()
+    ensures { (g : Netlist) (x : List Time) → IsNetlist g → TimingsAgree g x }
+{}

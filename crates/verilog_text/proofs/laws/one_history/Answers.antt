@@ -1,5 +1,0 @@
-use Rattle.verilog_text.proofs.Histories.{one_history}
-use Rattle.verilog_text.proofs.laws.one_history.Goals as goal
-
-pub returns : goal.returns
-returns c = λ m us ordered. one_history m ordered us

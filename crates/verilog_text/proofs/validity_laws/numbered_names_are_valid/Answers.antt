@@ -1,5 +1,0 @@
-use Rattle.verilog_text.proofs.Numbered.{numbered_names}
-use Rattle.verilog_text.proofs.validity_laws.numbered_names_are_valid.Goals as goal
-
-pub returns : goal.returns
-returns c = numbered_names

@@ -1,5 +1,0 @@
-use Rattle.verilog_text.proofs.Tested.{valid-from_test}
-use Rattle.verilog_text.proofs.validity_laws.test_shows_validity.Goals as goal
-
-pub returns : goal.returns
-returns c = valid-from_test
