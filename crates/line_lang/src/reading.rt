@@ -43,7 +43,7 @@ pub trait LineReader<'a>: Drop {
     fn form_at(alloc: Global, line: LineWords<'a>) -> Result<Self::Line, LineError<Self::Rule>>
         ensures { Gives form language.syntax result (reading line.entry) };
 
-    /// Whether a form may stand behind the lines before.
+    /// Whether a form may follow the lines before.
     fn allows(&self, line: &Self::Line) -> bool
         ensures { result ≡ language.allows (so_far self.now) (form line.now) };
 
@@ -57,13 +57,13 @@ pub trait LineReader<'a>: Drop {
         ensures sound { OnOk result (is_sound self.new) }
         ensures grows { OnOk result (size self.new ≤ size self.old + 1) };
 
-    /// What all lines together are, where a text may end behind them.
+    /// What all lines together are, where a text may end after them.
     fn whole(self) -> Option<Self::Value>
         requires { is_sound self }
         ensures { IsEnded language (so_far self) result };
 }
 
-/// Judges a line after those before, and keeps it where it stands.
+/// Judges a line after those before, and keeps it where it breaks no rule.
 fn read_line<'a, D: LineReader<'a>>(
     alloc: Global,
     draft: &mut D,
@@ -87,7 +87,7 @@ fn read_line<'a, D: LineReader<'a>>(
 }
 
 /// What a text of at most 67,108,864 bytes spells, begun with a draft of no lines. A failure names the first rule that
-/// the first line to break one breaks; a byte at which nothing stands is bad syntax, before every rule.
+/// the first line to break one breaks; a byte that no token, space or comment begins with is bad syntax, before every rule.
 pub fn read<'a, D: LineReader<'a>>(
     alloc: Global,
     draft: D,

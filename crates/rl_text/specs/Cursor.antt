@@ -1,4 +1,4 @@
--- A text as the pieces at its front, and the lines of style Race that are left behind a place.
+-- A text as the pieces at its front, and the lines of style Race that are left from a place on.
 use Rattle.std.specs.Prelude.{◌≡◌, if◌then◌else◌, ℕ, zero, suc, ◌+◌, List, [], ◌∷◌, ◌++◌, length, take, drop, Option, Some, None}
 use Rattle.rl_text.specs.declared.token.Kind.{Kind}
 use Rattle.rl_text.specs.declared.token.Style.{Style}
@@ -18,12 +18,12 @@ abbrev pub with_front : Option (Option Kind × ℕ) → (Option Kind → ℕ →
 with_front None go = []
 with_front (Some (k, n)) go = go k n
 
--- at most so many pieces from the front on, up to the first place at which nothing stands
+-- at most so many pieces from the front on, up to the first place at which there is no piece
 unfoldable pub pieces_in : ℕ → Style → List ℕ → List Piece
 pieces_in zero s text = []
 pieces_in (suc n) s text = with_front (front s text) (λ k len. record { kind = k; bytes = take len text } ∷ pieces_in n s (drop len text))
 
--- the pieces of a text, up to the first place at which nothing stands
+-- the pieces of a text, up to the first place at which there is no piece
 abbrev pub pieces_of : Style → List ℕ → List Piece
 pieces_of s text = pieces_in (length text) s text
 
@@ -63,7 +63,7 @@ abbrev pub GivesWord : List Word → Option Word → List Word → Type 0
 GivesWord old None left = (old ≡ []) × (left ≡ [])
 GivesWord old (Some w) left = old ≡ w ∷ left
 
--- the line of this number and these words, where it has some, and the lines behind it
+-- the line of this number and these words, where it has some, and the lines after it
 abbrev pub line_first : ℕ → List Word → List ℕ → List Line
 line_first number ws after = closed number ws ++ lines_left (number + 1) after
 

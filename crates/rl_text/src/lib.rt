@@ -21,7 +21,7 @@ mod words;
 
 pub use bytes::{is_digit, is_letter, is_name_byte};
 pub use cursor::{LineWords, Lines, first_bad};
-pub use cut::{lexemes, line_at, lines};
+pub use cut::{lexemes, line_at};
 pub use first::first_word;
 pub use laws::{
     bad_where_no_tokens, decimals_are_numbers, front_is_longest, one_bad_place, one_first_word,
@@ -33,7 +33,7 @@ pub use name_map::NameMap;
 pub use number::capped_number;
 pub use print::{put, put_number};
 pub use token::{Kind, LexError, Style, Token};
-pub use words::{Lexeme, Line, Word};
+pub use words::{Lexeme, Word};
 
 #[cfg(test)]
 mod tests;
