@@ -7,7 +7,7 @@ use Rattle.std.proofs.lemmas.Bool.Decides.{nat_tests}
 use Rattle.rl_time.specs.declared.time.Time.{Time}
 use Rattle.rl_time.specs.declared.time.Time.TheVariants.{At, Never}
 use Rattle.spike_eval.specs.Causal.{IsAfter, Agree, AllAgree}
-use Rattle.net_lang.specs.Value.{time_at}
+use Rattle.net_model.specs.Value.{time_at}
 use Rattle.causality.specs.Window.{is_start, entry_at}
 use Rattle.causality.specs.Walk.{IsWithin, is_earliest, is_first}
 use Rattle.causality.proofs.Order.{Sooner, Before}

@@ -11,8 +11,8 @@ use Rattle.std.proofs.lemmas.List.Elements.{All-from_recursion}
 use Rattle.std.proofs.lemmas.Option.{slice_get_within}
 use Rattle.rl_time.specs.declared.time.Time.{Time}
 use Rattle.rl_time.specs.declared.time.Time.TheVariants.{At, Never}
-use Rattle.net_lang.specs.Formula.{Equation, Net}
-use Rattle.net_lang.specs.Rules.{is_port_name, are_distinct, names_of, IsNetwork}
+use Rattle.net_model.specs.Formula.{Equation, Net}
+use Rattle.net_model.specs.Rules.{is_port_name, are_distinct, names_of, IsNetwork}
 use Rattle.func_table.specs.Table.{Row, table}
 use Rattle.func_table.specs.Rules.{IsUpTo, IsRow, IsTable}
 use Rattle.func_table.specs.Function.{least, taken_off, table_function}

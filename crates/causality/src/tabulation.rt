@@ -1,6 +1,6 @@
 ghost use Rattle.std.specs.Prelude.{◌≡◌, ◌<◌, ◌≤◌, ◌+◌, ◌-◌, ◌^◌, ◌++◌, ◌∷◌, [], false, length, take, All, IsTrue, Ok, Err, IfOk, IfErr, OnOk, slice_index_or};
 ghost use Rattle.std.specs.List.{list_any, AllByRecursion};
-ghost use Rattle.net_lang.specs.Rules.{names_of};
+ghost use Rattle.net_model.specs.Rules.{names_of};
 ghost use Rattle.func_table.specs.Table.{table};
 ghost use Rattle.func_table.specs.Rules.{IsTable};
 ghost use Rattle.func_table.specs.Function.{table_function};
@@ -10,8 +10,9 @@ ghost use Rattle.causality.specs.Window.{time_lists, is_start, window_lists, ent
 ghost use Rattle.causality.specs.Walk.{IsWithin, window_time, is_earliest, is_first, valued, visited, walked, behind, Gives};
 
 use crate::fault::TabError;
-use func_table::{Name, Row, Table, the_matching_row_decides};
-use net_lang::Network;
+use func_table::{Row, Table, the_matching_row_decides};
+use net_model::Network;
+use rl_text::copy_names;
 use rl_time::{NoMemory, Time};
 use spike_eval::{eval, outputs_are_causal};
 use std::alloc::Global;
@@ -69,11 +70,8 @@ fn named(alloc: Global, n: &Network, out: u32, rows: Vec<Row>) -> Result<Table, 
     requires table { IsTable (table n.now.inputs (slice_index_or (names_of n.now.outputs) out []) rows.items) }
     ensures { IfOk result (λ t. t ≡ table n.now.inputs (slice_index_or (names_of n.now.outputs) out []) rows.items) }
 {
-    let mut inputs = Vec::new(alloc);
-    for name in n.inputs() {
-        inputs.push(Name::new(alloc, name.bytes())?)?;
-    }
-    let output = Name::new(alloc, n.outputs()[out as usize].name().bytes())?;
+    let inputs = copy_names(alloc, n.inputs())?;
+    let output = n.outputs()[out as usize].name().copy(alloc)?;
     Ok(Table::new(inputs, output, rows))
 }
 

@@ -9,7 +9,7 @@ use Rattle.std.proofs.lemmas.List.Kept.{AllPairs-cons}
 use Rattle.std.proofs.lemmas.List.Elements.{All-cons}
 use Rattle.std.proofs.lemmas.Slice.Eq.{bytes_eq-Decides}
 use Rattle.rl_text.specs.Names.{is_underscore, is_name_start, is_name_byte, is_name}
-use Rattle.net_lang.specs.Rules as net
+use Rattle.net_model.specs.Rules as net
 use Rattle.circuit.specs.Names.{is_port_name, is_port_byte}
 
 byte_passes : (b : ℕ) → is_name_byte b ≡ true → is_port_byte b ≡ true

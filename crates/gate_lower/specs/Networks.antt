@@ -1,7 +1,7 @@
 -- The gates of a network: those of its outputs' terms, planted in an empty store.
 use Rattle.std.specs.Prelude.{◌≡◌, List, [], length}
-use Rattle.net_lang.specs.Formula.{Net}
-use Rattle.net_lang.specs.Rules.{names_of}
+use Rattle.net_model.specs.Formula.{Net}
+use Rattle.net_model.specs.Rules.{names_of}
 use Rattle.term_store.specs.declared.node.Term.{Term}
 use Rattle.term_store.specs.declared.node.Node.{Node}
 use Rattle.term_store.specs.Terms.{input_trees, let_trees, network_trees}

@@ -1,5 +1,5 @@
 ghost use Rattle.std.specs.Prelude.{◌≡◌, ◌<◌, ◌≤◌, ℕ, length, IfOk, OnOk, Err};
-ghost use Rattle.net_lang.specs.Rules.{names_of};
+ghost use Rattle.net_model.specs.Rules.{names_of};
 ghost use Rattle.term_store.specs.Terms.{network_trees};
 ghost use Rattle.term_store.specs.Subterms.{join_count, register_bits};
 ghost use Rattle.gate_lower.specs.Networks.{AreLowered};
@@ -9,7 +9,7 @@ ghost use Rattle.gate_lower.specs.declared.lowering.LowerError.TheVariants.{TooM
 
 use crate::gates::Gates;
 use crate::lowering::{LowerError, lower};
-use net_lang::{Binding, Network};
+use net_model::{Binding, Network};
 use rl_text::Name;
 use rl_time::NoMemory;
 use std::alloc::Global;

@@ -3,7 +3,7 @@ use Rattle.std.proofs.Common.{[], ◌∷◌, sym, ◌∙◌, arith}
 use Rattle.std.specs.List.{list_all}
 use Rattle.std.proofs.lemmas.Bool.{and_parts}
 use Rattle.std.proofs.lemmas.List.Folds.{list_all-append}
-use Rattle.net_lang.specs.Rules.{is_port_name}
+use Rattle.net_model.specs.Rules.{is_port_name}
 use Rattle.term_store.specs.Ports.{ArePorts}
 use Rattle.func_table.specs.Table.{Table}
 use Rattle.func_table.specs.Rules.{IsTable}

@@ -1,7 +1,7 @@
 -- Room, one planting after the other.
 use Rattle.std.proofs.Common.{ℕ, ◌≤◌, ◌+◌, arith, length}
 use Rattle.term_store.specs.Nodes.{Contents}
-use Rattle.minterm.specs.Room.{HasRoom, TakesRoom}
+use Rattle.term_store.specs.Room.{HasRoom, TakesRoom}
 
 pub no_room : (s : Contents) → TakesRoom s s 0
 no_room s = record { places = omega arith; memory = omega arith }

@@ -8,7 +8,7 @@ use Rattle.std.proofs.lemmas.Bool.Decides.{nat_tests}
 use Rattle.rl_time.specs.declared.time.Time.{Time}
 use Rattle.rl_time.specs.declared.time.Time.TheVariants.{At, Never}
 use Rattle.rl_time.specs.Time.{time_min, time_max, time_lt, time_inc}
-use Rattle.net_lang.specs.Value.{time_at}
+use Rattle.net_model.specs.Value.{time_at}
 use Rattle.term_store.specs.Tree as tree
 use Rattle.term_store.specs.Tree.{Tree, value}
 use Rattle.term_store.specs.Terms.{delayed}

@@ -5,7 +5,7 @@ ghost use Rattle.term_store.specs.Nodes.{IsNodes};
 ghost use Rattle.term_store.specs.Trees.{tree, trees_at};
 ghost use Rattle.term_store.specs.Planting.{IsPlanted};
 ghost use Rattle.minterm.specs.Minterms.{joined};
-ghost use Rattle.minterm.specs.Room.{HasRoom, TakesRoom};
+ghost use Rattle.term_store.specs.Room.{HasRoom, TakesRoom};
 ghost use Rattle.minterm.specs.Steps.{join_node, join_tree};
 
 use crate::join::Join;

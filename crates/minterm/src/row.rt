@@ -8,7 +8,7 @@ ghost use Rattle.term_store.specs.Planting.{IsPlanted, ArePlanted};
 ghost use Rattle.func_table.specs.Rules.{IsUpTo};
 ghost use Rattle.func_table.specs.Sound.{IsInOrder};
 ghost use Rattle.minterm.specs.Minterms.{number_terms, together, before_all, minterm};
-ghost use Rattle.minterm.specs.Room.{HasRoom, TakesRoom};
+ghost use Rattle.term_store.specs.Room.{HasRoom, TakesRoom};
 ghost use Rattle.minterm.specs.Steps.{AreInputs, dash_places};
 
 use crate::join::Join;

@@ -12,7 +12,7 @@ ghost use Rattle.func_table.specs.Rules.{IsRow};
 ghost use Rattle.func_table.specs.Sound.{IsInOrder, AreSound};
 ghost use Rattle.func_table.specs.Function.{table_function};
 ghost use Rattle.minterm.specs.Minterms.{earliest, synthesised, table_terms};
-ghost use Rattle.minterm.specs.Room.{HasRoom, TakesRoom};
+ghost use Rattle.term_store.specs.Room.{HasRoom, TakesRoom};
 ghost use Rattle.minterm.specs.Steps.{AreInputs, AreRowsPlanted};
 
 use crate::join::Join;

@@ -8,7 +8,7 @@ ghost use Rattle.minterm.specs.Samples.{closed_row, open_row, late_row, wide_row
 use crate::laws::table_names_are_ports;
 use crate::synthesis::synth;
 use func_table::{Name, Row, Table};
-use net_lang::print_network;
+use net_model::print_network;
 use rl_time::NoMemory;
 use std::alloc::Global;
 use std::process::Abort;

@@ -8,36 +8,35 @@ use Rattle.std.specs.Str.{bytes_eq}
 use Rattle.std.proofs.lemmas.List.{append-nil, append_assoc, length-append, drop_more, drop_all}
 use Rattle.std.proofs.lemmas.List.Folds.{list_all-map}
 use Rattle.std.proofs.lemmas.Bool.{le-ltb, lt-ltb}
-use Rattle.net_lang.specs.declared.reader.scope.Scope as source
+use Rattle.rl_text.specs.declared.name_map.NameMap.{NameMap}
 use Rattle.net_lang.specs.declared.reader.scope.Place.TheVariants as place
 use Rattle.net_lang.specs.declared.reader.draft.Draft as kept
 use Rattle.net_lang.specs.declared.reader.rules.Rule.TheVariants as rule
-use Rattle.net_lang.specs.declared.reader.rules.Stage.{Stage}
 use Rattle.net_lang.specs.declared.reader.rules.Stage.TheVariants as stage
-use Rattle.net_lang.specs.Formula.{Net, net}
-use Rattle.net_lang.specs.Rules.{is_port_name, declared_names, names_of}
+use Rattle.net_model.specs.Formula.{Net, net}
+use Rattle.net_model.specs.Rules.{is_port_name, declared_names, names_of}
 use Rattle.net_lang.specs.Forms.{Form, Inputs}
-use Rattle.net_lang.specs.LineRules.{allows, extended, some_twice, has_bad_name, has_doubled_name, has_too_many, joins_in, delays_in, first_rule}
-use Rattle.net_lang.specs.Known.{find, known, known_in, AddsName}
-use Rattle.net_lang.specs.Draft.{net_of, HasParts, IsSound, IsDraft, Adds, KnowsInputs, Declares}
+use Rattle.net_lang.specs.LineRules.{allows, after, extended, some_twice, has_bad_name, has_doubled_name, has_too_many, joins_in, delays_in, first_rule}
+use Rattle.rl_text.specs.NameMap.{find, AddsName}
+use Rattle.net_lang.specs.Known.{known, known_in}
+use Rattle.net_lang.specs.Draft.{net_of, so_far, IsPart, IsDraft, Adds, KnowsInputs, Declares}
 use Rattle.net_lang.proofs.Knowing.{known_declared, known_input}
-use Rattle.net_lang.proofs.Sound.{keeps, sound_inputs}
-use Rattle.net_lang.proofs.Drafts.{parts_inputs}
+use Rattle.net_lang.proofs.Partial.{parts_inputs, part_after}
 
 -- of the names that are to be declared behind `old`, some are declared and some are left
-pub record Declaring (scope : source.Scope) (old all inputs left : List (List ℕ)) : Type 0 where
+pub record Declaring (scope : NameMap Known) (old all inputs left : List (List ℕ)) : Type 0 where
   pub known : KnowsInputs scope inputs
   pub twice : some_twice inputs left ≡ some_twice old all
   pub whole : inputs ++ left ≡ old ++ all
 
-pub begins : (s : source.Scope) (inputs all : List (List ℕ)) → KnowsInputs s inputs → Declaring s inputs all inputs all
+pub begins : (s : NameMap Known) (inputs all : List (List ℕ)) → KnowsInputs s inputs → Declaring s inputs all inputs all
 begins s inputs all k = record { known = k; twice = refl; whole = refl }
 
-found_is : (s : source.Scope) (inputs : List (List ℕ)) (x : List ℕ) → KnowsInputs s inputs → is_some (find s x) ≡ list_any (bytes_eq x) inputs
+found_is : (s : NameMap Known) (inputs : List (List ℕ)) (x : List ℕ) → KnowsInputs s inputs → is_some (find s x) ≡ list_any (bytes_eq x) inputs
 found_is s inputs x k =
     ap is_some (k x) ∙ known_declared (net inputs [] []) x ∙ ap (list_any (bytes_eq x)) (append-nil (inputs ++ []) ∙ append-nil inputs)
 
-pub goes_on : (s new : source.Scope) (old all inputs left more : List (List ℕ)) (x : List ℕ) → Declaring s old all inputs (x ∷ left) → is_some (find s x) ≡ false
+pub goes_on : (s new : NameMap Known) (old all inputs left more : List (List ℕ)) (x : List ℕ) → Declaring s old all inputs (x ∷ left) → is_some (find s x) ≡ false
     → AddsName s new x (known (place.Input (length inputs)) 0) → more ≡ inputs ++ x ∷ [] → Declaring new old all more left
 goes_on s new old all inputs left more x d f a m =
     let none : list_any (bytes_eq x) inputs ≡ false = sym (found_is s inputs x d.known) ∙ f in
@@ -48,12 +47,12 @@ goes_on s new old all inputs left more x d f a m =
       whole = append_assoc inputs (x ∷ []) left ∙ d.whole;
     })
 
-pub stops : (s : source.Scope) (old all inputs left : List (List ℕ)) (x : List ℕ) → Declaring s old all inputs (x ∷ left) → is_some (find s x) ≡ true → some_twice old all ≡ true
+pub stops : (s : NameMap Known) (old all inputs left : List (List ℕ)) (x : List ℕ) → Declaring s old all inputs (x ∷ left) → is_some (find s x) ≡ true → some_twice old all ≡ true
 stops s old all inputs left x d f =
     let here : list_any (bytes_eq x) inputs ≡ true = sym (found_is s inputs x d.known) ∙ f in
     sym d.twice ∙ ap (λ (b : Bool). b || some_twice (inputs ++ x ∷ []) left) here
 
-pub ends : (s : source.Scope) (old all inputs left : List (List ℕ)) → left ≡ [] → Declaring s old all inputs left → Declares old all s inputs true
+pub ends : (s : NameMap Known) (old all inputs left : List (List ℕ)) → left ≡ [] → Declaring s old all inputs left → Declares old all s inputs true
 ends s old all inputs left e d =
     let n : some_twice inputs left ≡ false = ap (some_twice inputs) e in
     (sym d.twice ∙ n, sym (append-nil inputs) ∙ ap (λ (l : List (List ℕ)). inputs ++ l) (sym e) ∙ d.whole, d.known)
@@ -66,11 +65,11 @@ all_now names = map (λ n. n.now) names
 names_from : (names : List (Bor (List ℕ))) (i : ℕ) (d : Bor (List ℕ)) → i < length names → all_now (drop i names) ≡ (get_or names i d).now ∷ all_now (drop (i + 1) names)
 names_from names i d lt = ap all_now (drop_more names i d lt)
 
-module _ (s : source.Scope) (old inputs : List (List ℕ)) (names : List (Bor (List ℕ))) (i : ℕ) (d : Bor (List ℕ)) (lt : i < length names) (h : Declaring s old (all_now names) inputs (all_now (drop i names))) where
+module _ (s : NameMap Known) (old inputs : List (List ℕ)) (names : List (Bor (List ℕ))) (i : ℕ) (d : Bor (List ℕ)) (lt : i < length names) (h : Declaring s old (all_now names) inputs (all_now (drop i names))) where
   at_name : Declaring s old (all_now names) inputs ((get_or names i d).now ∷ all_now (drop (i + 1) names))
   at_name = subst (Declaring s old (all_now names) inputs) (names_from names i d lt) h
 
-  pub turn : (new : source.Scope) (more : List (List ℕ)) (at : ℕ) (o : Option Known) (test : Bool) → o ≡ find s (get_or names i d).now → test ≡ is_some o → test ≡ false → at ≡ length inputs
+  pub turn : (new : NameMap Known) (more : List (List ℕ)) (at : ℕ) (o : Option Known) (test : Bool) → o ≡ find s (get_or names i d).now → test ≡ is_some o → test ≡ false → at ≡ length inputs
       → AddsName s new (get_or names i d).now (known (place.Input at) 0) → more ≡ inputs ++ (get_or names i d).now ∷ [] → Declaring new old (all_now names) more (all_now (drop (i + 1) names))
   turn new more at o test e f g a adds m =
       goes_on s new old (all_now names) inputs (all_now (drop (i + 1) names)) more (get_or names i d).now at_name (ap is_some (sym e) ∙ sym f ∙ g)
@@ -79,7 +78,7 @@ module _ (s : source.Scope) (old inputs : List (List ℕ)) (names : List (Bor (L
   pub found : (o : Option Known) (test : Bool) → o ≡ find s (get_or names i d).now → test ≡ is_some o → test ≡ true → some_twice old (all_now names) ≡ true
   found o test e f g = stops s old (all_now names) inputs (all_now (drop (i + 1) names)) (get_or names i d).now at_name (ap is_some (sym e) ∙ sym f ∙ g)
 
-pub all_done : (s : source.Scope) (old inputs : List (List ℕ)) (names : List (Bor (List ℕ))) (i : ℕ) → length names ≤ i → Declaring s old (all_now names) inputs (all_now (drop i names)) → Declares old (all_now names) s inputs true
+pub all_done : (s : NameMap Known) (old inputs : List (List ℕ)) (names : List (Bor (List ℕ))) (i : ℕ) → length names ≤ i → Declaring s old (all_now names) inputs (all_now (drop i names)) → Declares old (all_now names) s inputs true
 all_done s old inputs names i h d = ends s old (all_now names) inputs (all_now (drop i names)) (ap all_now (drop_all i names h)) d
 
 -- ---- the rules of a line of inputs
@@ -103,25 +102,21 @@ inputs_keep n names h g k = rw (h, g, k) refl
 only_inputs : (n : Net) → n.lets ≡ [] → n.outputs ≡ [] → declared_names n ≡ n.inputs
 only_inputs n l o = (λ i. n.inputs ++ names_of (l i) ++ names_of (o i)) ∙ append-nil (n.inputs ++ []) ∙ append-nil n.inputs
 
-some_length : (xs : List (List ℕ)) → xs ≢ [] → 1 ≤ length xs
-some_length [] h = absurd (h refl)
-some_length (x ∷ xs) h = omega arith
-
 module _ (d : kept.Draft) (names : List (List ℕ)) (h : IsDraft d) (a : allows d.stage (Inputs names) ≡ true) where
   pub knows_inputs : KnowsInputs d.scope d.inputs.items
-  knows_inputs = let p = parts_inputs d.stage (net_of d) names a h.parts in λ t. h.names t ∙ (λ i. known_in (net d.inputs.items (p.0 i) (p.1 i)) t)
+  knows_inputs = let p = parts_inputs d.stage (net_of d) names a h.part.parts in λ t. h.names t ∙ (λ i. known_in (net d.inputs.items (p.0 i) (p.1 i)) t)
 
   doubled_is : has_doubled_name (net_of d) (Inputs names) ≡ some_twice d.inputs.items names
-  doubled_is = let p = parts_inputs d.stage (net_of d) names a h.parts in ap (λ (xs : List (List ℕ)). some_twice xs names) (only_inputs (net_of d) p.0 p.1)
+  doubled_is = let p = parts_inputs d.stage (net_of d) names a h.part.parts in ap (λ (xs : List (List ℕ)). some_twice xs names) (only_inputs (net_of d) p.0 p.1)
 
   pub twice_broken : has_bad_name (Inputs names) ≡ false → some_twice d.inputs.items names ≡ true → first_rule (net_of d) (Inputs names) ≡ Some rule.Doubled
   twice_broken g t = doubled_broken (net_of d) (Inputs names) g (doubled_is ∙ t)
 
   many_is : (count : ℕ) → count ≡ length (d.inputs.items ++ names) → has_too_many (extended (net_of d) (Inputs names)) ≡ ltb 64 count
   many_is count c =
-      let o : ltb 64 (length d.outputs.items) ≡ false = le-ltb 64 _ h.sound.few_outputs in
-      let j : ltb 16384 (joins_in (net_of d)) ≡ false = le-ltb 16384 _ h.sound.few_joins in
-      let k : ltb 16384 (delays_in (net_of d)) ≡ false = le-ltb 16384 _ h.sound.few_delays in
+      let o : ltb 64 (length d.outputs.items) ≡ false = le-ltb 64 _ h.part.sound.few_outputs in
+      let j : ltb 16384 (joins_in (net_of d)) ≡ false = le-ltb 16384 _ h.part.sound.few_joins in
+      let k : ltb 16384 (delays_in (net_of d)) ≡ false = le-ltb 16384 _ h.part.sound.few_delays in
       (λ i. ltb 64 (sym c i) || o i || j i || k i) ∙ flat (ltb 64 count) where
         flat : (b : Bool) → (b || false || false || false) ≡ b
         flat true = refl
@@ -137,26 +132,25 @@ module _ (d : kept.Draft) (names : List (List ℕ)) (h : IsDraft d) (a : allows 
       let n = net_of d in
       let f = Inputs names in
       let rule_kept : first_rule n f ≡ None = inputs_keep n names g (doubled_is ∙ t) (many_is count c ∙ le-ltb 64 count le) in
-      let p = parts_inputs d.stage n names a h.parts in
+      let p = parts_inputs d.stage n names a h.part.parts in
       let same : net_of new ≡ extended n f = λ i. net (ins i) (lets i) (outs i) in
-      let few : 1 ≤ length (d.inputs.items ++ names) = let s = some_length names some in let l = length-append d.inputs.items names in omega (arith, s, l) in (
+      let now : so_far new ≡ after (so_far d) f = λ i. record { stage = last i; net = same i } in (
         rule_kept,
         record {
-          now = λ i. record { stage = last i; net = same i };
+          now = now;
           draft = record {
             names = λ u. known u ∙ (λ i. known_in (net new.inputs.items (sym (lets ∙ p.0) i) (sym (outs ∙ p.1) i)) u);
             joins = js ∙ h.joins ∙ ap joins_in (sym same);
             delays = ds ∙ h.delays ∙ ap delays_in (sym same);
-            parts = subst (λ (x : Net). HasParts new.stage x) (sym same) (subst (λ (s : Stage). HasParts s (extended n f)) (sym last) (few, p.0, p.1));
-            sound = subst IsSound (sym same) (sound_inputs n names h.sound p.0 p.1 (keeps n f rule_kept));
+            part = subst IsPart (sym now) (part_after (so_far d) f h.part a rule_kept some);
           };
         },
       )
 
-pub not_fresh : (old all new : List (List ℕ)) (s : source.Scope) (b : Bool) → b ≡ false → Declares old all s new b → some_twice old all ≡ true
+pub not_fresh : (old all new : List (List ℕ)) (s : NameMap Known) (b : Bool) → b ≡ false → Declares old all s new b → some_twice old all ≡ true
 not_fresh old all new s b e d = subst (Declares old all s new) e d
 
-pub fresh : (old all new : List (List ℕ)) (s : source.Scope) (b : Bool) → b ≡ true → Declares old all s new b → Declares old all s new true
+pub fresh : (old all new : List (List ℕ)) (s : NameMap Known) (b : Bool) → b ≡ true → Declares old all s new b → Declares old all s new true
 fresh old all new s b e d = subst (Declares old all s new) e d
 
 -- a test of the names as they are held

@@ -7,20 +7,25 @@ use Rattle.std.proofs.lemmas.Bool.{cases_lt, lt-ltb, le-ltb, ltb-false, or_parts
 use Rattle.std.proofs.lemmas.List.{append_assoc, length-append, length-map}
 use Rattle.std.proofs.lemmas.List.Sums.{sum_by-append, sum_by-cons}
 use Rattle.net_lang.specs.declared.reader.scope.Known.{Known}
+use Rattle.net_lang.specs.declared.reader.scope.Measured.{Measured}
+use Rattle.net_lang.specs.declared.reader.rules.Target.{Target}
+use Rattle.net_lang.specs.declared.reader.rules.Target.TheVariants as target
 use Rattle.net_lang.specs.declared.reader.scope.Place.TheVariants as place
 use Rattle.net_lang.specs.declared.reader.draft.Draft as source
 use Rattle.net_lang.specs.declared.reader.rules.Stage.{Stage}
 use Rattle.net_lang.specs.declared.reader.rules.Stage.TheVariants as stage
-use Rattle.net_lang.specs.Formula.{Formula, Equation, Net}
-use Rattle.net_lang.specs.Rules.{is_let_name, is_port_name, names_of, declared_names, joins, delays, let_spans}
+use Rattle.net_model.specs.Formula.{Formula, Equation, Net, net}
+use Rattle.net_model.specs.Rules.{names_of, declared_names, equations, joins, delays, span, let_spans}
 use Rattle.net_lang.specs.Grammar.{Expression, written_nesting}
 use Rattle.net_lang.specs.Names.{resolved, knows, place_of}
-use Rattle.net_lang.specs.Forms.{Inputs, Let, Output}
-use Rattle.net_lang.specs.LineRules.{allows, equation, extended, some_twice, joins_in, delays_in, is_over, body_span, first_of, first_rule}
-use Rattle.net_lang.specs.Known.{find, known, known_by, known_in, AddsName, HasSmallPlace, IsSmall, span_at, found_formula, found_span, finds_all, written_joins, written_delays}
-use Rattle.net_lang.specs.Draft.{net_of, HasParts, IsSound, IsDraft, Adds}
-use Rattle.net_lang.proofs.Sound.{keeps, sound_let, sound_output}
-use Rattle.net_lang.proofs.Knowing.{place_low, formulas, spans, known_all, known_declared, resolved_joins, resolved_delays, is_new, known_let, known_output, or_false}
+use Rattle.net_lang.specs.Forms.{Define, IsFormed}
+use Rattle.net_lang.specs.LineRules.{SoFar, nothing_yet, allows, after, equation, may_have, stage_after, with_equation, some_twice, joins_in, delays_in, is_over, body_span, first_of, first_rule}
+use Rattle.rl_text.specs.NameMap.{find, AddsName}
+use Rattle.net_lang.specs.Known.{known, known_by, known_in, Measures, HasSmallPlace, IsSmall, span_at, found_formula, found_span, finds_all, written_joins, written_delays}
+use Rattle.net_lang.specs.Draft.{net_of, so_far, known_as, outputs_in, rule_by, IsSound, IsPart, IsDraft, Adds}
+use Rattle.net_lang.proofs.Sound.{keeps}
+use Rattle.net_lang.proofs.Partial.{part_after, no_part}
+use Rattle.net_lang.proofs.Knowing.{IsNew, place_low, formulas, spans, known_all, known_declared, resolved_joins, resolved_delays, is_new, known_let, known_output, or_false}
 
 -- ---- a draft's look-up is small
 
@@ -53,7 +58,7 @@ looks : (d : source.Draft) → IsDraft d → find d.scope ≡ known_in (net_of d
 looks d h = λ i t. h.names t i
 
 pub small : (d : source.Draft) → IsDraft d → length d.lets.items < 2 ^ 31 → IsSmall (find d.scope)
-small d h few = subst IsSmall (sym (looks d h)) (small_known (net_of d) h.sound few)
+small d h few = subst IsSmall (sym (looks d h)) (small_known (net_of d) h.part.sound few)
 
 -- ---- the rules by a draft
 
@@ -84,150 +89,107 @@ sum_between g es fs e =
 sum_last : (g : Equation → ℕ) (es fs : List Equation) (e : Equation) → sum_by g (es ++ (fs ++ e ∷ [])) ≡ sum_by g (es ++ fs) + g e
 sum_last g es fs e = ap (sum_by g) (sym (append_assoc es fs (e ∷ []))) ∙ sum_one g (es ++ fs) e
 
-module _ (d : source.Draft) (name : List ℕ) (t : Expression) (h : IsDraft d) where
-  n : Net
-  n = net_of d
+sum_with : (g : Equation → ℕ) (k : Target) (n : Net) (e : Equation) → sum_by g (equations (with_equation k n e)) ≡ sum_by g (equations n) + g e
+sum_with g target.Let n e = sum_between g n.lets n.outputs e
+sum_with g target.Output n e = sum_last g n.lets n.outputs e
 
+inputs_with : (k : Target) (n : Net) (e : Equation) → length n.inputs ≡ length (with_equation k n e).inputs
+inputs_with target.Let n e = refl
+inputs_with target.Output n e = refl
+
+outputs_with : (k : Target) (n : Net) (e : Equation) → length n.outputs + outputs_in k ≡ length (with_equation k n e).outputs
+outputs_with target.Let n e = omega arith
+outputs_with target.Output n e = let l = length-append n.outputs (e ∷ []) in omega (arith, l)
+
+-- a let or an output more is known
+known_more : (k : Target) (n : Net) (e : Equation) (at s : ℕ) → IsNew n e.name → at ≡ length n.lets → s ≡ span (let_spans n.lets) e.body → (u : List ℕ)
+    → cond (bytes_eq e.name u) (Some (known_as k at s)) (known_in n u) ≡ known_in (with_equation k n e) u
+known_more target.Let n e at s new a b u = (λ i. cond (bytes_eq e.name u) (Some (known (place.Let (a i)) s)) (known_in n u)) ∙ known_let n e s new b u
+known_more target.Output n e at s new a b u = known_output n e new u
+
+-- counts that are few are not capped
+uncapped : (k m b c d : ℕ) → k ≡ m → b ≡ c → m + c ≤ 16384 → d ≡ min b 20000 → k + d ≡ m + c
+uncapped k m b c d e f h g = omega (arith, e, f, h, g)
+
+module _ (d : source.Draft) (k : Target) (name : List ℕ) (t : Expression) (m : Measured) (h : IsDraft d) (c : Measures (find d.scope) t m) where
   doubled_is : is_some (find d.scope name) ≡ some_twice (declared_names (net_of d)) (name ∷ [])
   doubled_is = ap is_some (h.names name) ∙ known_declared (net_of d) name ∙ sym (or_false (list_any (bytes_eq name) (declared_names (net_of d))))
 
-  unknown_is : not (finds_all (find d.scope) t) ≡ not (knows (net_of d) t)
-  unknown_is = ap not (ap (λ (g : List ℕ → Option Known). finds_all g t) (looks d h) ∙ known_all (net_of d) t)
+  unknown_is : not m.known ≡ not (knows (net_of d) t)
+  unknown_is = ap not (c.known ∙ ap (λ (g : List ℕ → Option Known). finds_all g t) (looks d h) ∙ known_all (net_of d) t)
 
-  late_is : ltb 1000000 (min (found_span (find d.scope) t) 1000001) ≡ ltb 1000000 (body_span (net_of d) t)
-  late_is = late_capped (found_span (find d.scope) t) ∙ ap (ltb 1000000) (ap (λ (g : List ℕ → Option Known). found_span g t) (looks d h) ∙ spans (net_of d) t)
+  span_is : found_span (find d.scope) t ≡ body_span (net_of d) t
+  span_is = ap (λ (g : List ℕ → Option Known). found_span g t) (looks d h) ∙ spans (net_of d) t
 
-  joins_is : (total : ℕ) → total ≡ joins_in (net_of d) + joins (resolved (net_of d) t) → ltb 16384 (d.joins + min (written_joins t) 20000) ≡ ltb 16384 total
-  joins_is total e = over_capped d.joins (written_joins t) ∙ ap (ltb 16384) (let a = h.joins in let b = resolved_joins (net_of d) t in let g : d.joins + written_joins t ≡ total = omega (arith, a, b, e) in g)
+  late_is : ltb 1000000 m.span ≡ ltb 1000000 (body_span (net_of d) t)
+  late_is = ap (ltb 1000000) c.span ∙ late_capped (found_span (find d.scope) t) ∙ ap (ltb 1000000) span_is
 
-  delays_is : (total : ℕ) → total ≡ delays_in (net_of d) + delays (resolved (net_of d) t) → ltb 16384 (d.delays + min (written_delays t) 20000) ≡ ltb 16384 total
-  delays_is total e = over_capped d.delays (written_delays t) ∙ ap (ltb 16384) (let a = h.delays in let b = resolved_delays (net_of d) t in let g : d.delays + written_delays t ≡ total = omega (arith, a, b, e) in g)
+  joins_is : (total : ℕ) → total ≡ joins_in (net_of d) + joins (resolved (net_of d) t) → ltb 16384 (d.joins + m.joins) ≡ ltb 16384 total
+  joins_is total e =
+      ap (λ (j : ℕ). ltb 16384 (d.joins + j)) c.joins ∙ over_capped d.joins (written_joins t)
+      ∙ ap (ltb 16384) (let a = h.joins in let b = resolved_joins (net_of d) t in let g : d.joins + written_joins t ≡ total = omega (arith, a, b, e) in g)
 
-  pub let_rule : first_of (not (is_let_name name)) (is_some (find d.scope name)) (not (finds_all (find d.scope) t))
-      (is_over (vec_len d.inputs) (vec_len d.outputs) (d.joins + min (written_joins t) 20000) (d.delays + min (written_delays t) 20000)) (ltb 1000000 (min (found_span (find d.scope) t) 1000001))
-      ≡ first_rule (net_of d) (Let name t)
+  delays_is : (total : ℕ) → total ≡ delays_in (net_of d) + delays (resolved (net_of d) t) → ltb 16384 (d.delays + m.delays) ≡ ltb 16384 total
+  delays_is total e =
+      ap (λ (j : ℕ). ltb 16384 (d.delays + j)) c.delays ∙ over_capped d.delays (written_delays t)
+      ∙ ap (ltb 16384) (let a = h.delays in let b = resolved_delays (net_of d) t in let g : d.delays + written_delays t ≡ total = omega (arith, a, b, e) in g)
+
+  pub rule_is : rule_by d k name m ≡ first_rule (net_of d) (Define k name t)
   unfolding first_rule
-  let_rule =
+  rule_is =
       let e = equation (net_of d) name t in
-      let ins : vec_len d.inputs ≡ length d.inputs.items = omega (arith, d.inputs.ok) in
-      let outs : vec_len d.outputs ≡ length d.outputs.items = omega (arith, d.outputs.ok) in
-      let j = joins_is _ (sum_between (λ (x : Equation). joins x.body) d.lets.items d.outputs.items e) in
-      let k = delays_is _ (sum_between (λ (x : Equation). delays x.body) d.lets.items d.outputs.items e) in
-      λ i. first_of (not (is_let_name name)) (doubled_is i) (unknown_is i) (ltb 64 (ins i) || ltb 64 (outs i) || j i || k i) (late_is i)
+      let ins = inputs_with k (net_of d) e in
+      let outs = outputs_with k (net_of d) e in
+      let j = joins_is _ (sum_with (λ (x : Equation). joins x.body) k (net_of d) e) in
+      let l = delays_is _ (sum_with (λ (x : Equation). delays x.body) k (net_of d) e) in
+      λ i. first_of (not (may_have k name)) (doubled_is i) (unknown_is i) (ltb 64 (ins i) || ltb 64 (outs i) || j i || l i) (late_is i)
 
-  pub output_rule : first_of (not (is_port_name name)) (is_some (find d.scope name)) (not (finds_all (find d.scope) t))
-      (is_over (vec_len d.inputs) (vec_len d.outputs + 1) (d.joins + min (written_joins t) 20000) (d.delays + min (written_delays t) 20000)) (ltb 1000000 (min (found_span (find d.scope) t) 1000001))
-      ≡ first_rule (net_of d) (Output name t)
-  unfolding first_rule
-  output_rule =
-      let e = equation (net_of d) name t in
-      let ins : vec_len d.inputs ≡ length d.inputs.items = omega (arith, d.inputs.ok) in
-      let outs : vec_len d.outputs + 1 ≡ length (d.outputs.items ++ e ∷ []) = let l = length-append d.outputs.items (e ∷ []) in omega (arith, d.outputs.ok, l) in
-      let j = joins_is _ (sum_last (λ (x : Equation). joins x.body) d.lets.items d.outputs.items e) in
-      let k = delays_is _ (sum_last (λ (x : Equation). delays x.body) d.lets.items d.outputs.items e) in
-      λ i. first_of (not (is_port_name name)) (doubled_is i) (unknown_is i) (ltb 64 (ins i) || ltb 64 (outs i) || j i || k i) (late_is i)
+  module _ (a : allows d.stage (Define k name t) ≡ true) (rule : first_rule (net_of d) (Define k name t) ≡ None) where
+    pub short : found_span (find d.scope) t ≤ 1000000
+    short =
+        let late : body_span (net_of d) t ≤ 1000000 = ltb-false 1000000 _ (keeps (net_of d) (Define k name t) rule).early in
+        omega (arith, late, span_is)
 
--- ---- a line more
+    pub define_kept : (new : source.Draft) → IsFormed (Define k name t) → AddsName d.scope new.scope name (known_as k (vec_len d.lets) m.span) → new.stage ≡ stage_after k
+        → net_of new ≡ with_equation k (net_of d) (equation (net_of d) name t) → new.joins ≡ d.joins + m.joins → new.delays ≡ d.delays + m.delays → Adds d (Define k name t) new
+    define_kept new w scope last same js ds =
+        let n = net_of d in
+        let f = Define k name t in
+        let e = equation n name t in
+        let part = part_after (so_far d) f h.part a rule w in
+        let fresh = is_new n name (or_parts (list_any (bytes_eq name) (declared_names n)) false (keeps n f rule).new).0 in
+        let span : m.span ≡ body_span n t = let s = short in let q = span_is in let r = c.span in omega (arith, s, q, r) in
+        let at : vec_len d.lets ≡ length d.lets.items = omega (arith, d.lets.ok) in
+        let j = sum_with (λ (x : Equation). joins x.body) k n e in
+        let l = sum_with (λ (x : Equation). delays x.body) k n e in
+        let few_joins : joins_in n + joins (resolved n t) ≤ 16384 = let s = part.sound.few_joins in omega (arith, s, j) in
+        let few_delays : delays_in n + delays (resolved n t) ≤ 16384 = let s = part.sound.few_delays in omega (arith, s, l) in
+        let now : so_far new ≡ after (so_far d) f = λ i. record { stage = last i; net = same i } in
+        record {
+          now = now;
+          draft = record {
+            names = λ u. scope u ∙ ap (λ (o : Option Known). cond (bytes_eq name u) (Some (known_as k (vec_len d.lets) m.span)) o) (h.names u) ∙ known_more k n e (vec_len d.lets) m.span fresh at span u ∙ ap (λ (x : Net). known_in x u) (sym same);
+            joins = js ∙ uncapped d.joins (joins_in n) (written_joins t) (joins (resolved n t)) m.joins h.joins (resolved_joins n t) few_joins c.joins ∙ sym j ∙ ap joins_in (sym same);
+            delays = ds ∙ uncapped d.delays (delays_in n) (written_delays t) (delays (resolved n t)) m.delays h.delays (resolved_delays n t) few_delays c.delays ∙ sym l ∙ ap delays_in (sym same);
+            part = subst IsPart (sym now) part;
+          };
+        }
 
-parts_let : (s : Stage) (n : Net) (name : List ℕ) (t : Expression) → allows s (Let name t) ≡ true → HasParts s n → (1 ≤ length n.inputs) × (n.outputs ≡ [])
-parts_let stage.Start n name t a h = absurd cc
-parts_let stage.Header n name t a h = absurd cc
-parts_let stage.Inputs n name t a h = (h.0, h.2)
-parts_let stage.Lets n name t a h = h
-parts_let stage.Outputs n name t a h = absurd cc
+-- ---- no lines
 
-parts_output : (s : Stage) (n : Net) (name : List ℕ) (t : Expression) → allows s (Output name t) ≡ true → HasParts s n → 1 ≤ length n.inputs
-parts_output stage.Start n name t a h = absurd cc
-parts_output stage.Header n name t a h = absurd cc
-parts_output stage.Inputs n name t a h = h.0
-parts_output stage.Lets n name t a h = h.0
-parts_output stage.Outputs n name t a h = h.0
-
-pub parts_inputs : (s : Stage) (n : Net) (names : List (List ℕ)) → allows s (Inputs names) ≡ true → HasParts s n → (n.lets ≡ []) × (n.outputs ≡ [])
-parts_inputs stage.Start n names a h = absurd cc
-parts_inputs stage.Header n names a h = (h.1, h.2)
-parts_inputs stage.Inputs n names a h = (h.1, h.2)
-parts_inputs stage.Lets n names a h = absurd cc
-parts_inputs stage.Outputs n names a h = absurd cc
-
-pub short_let : (d : source.Draft) (name : List ℕ) (t : Expression) → IsDraft d → first_rule (net_of d) (Let name t) ≡ None → found_span (find d.scope) t ≤ 1000000
-short_let d name t h e =
-    let late : body_span (net_of d) t ≤ 1000000 = ltb-false 1000000 _ (keeps (net_of d) (Let name t) e).early in
-    let s : found_span (find d.scope) t ≡ body_span (net_of d) t = ap (λ (g : List ℕ → Option Known). found_span g t) (looks d h) ∙ spans (net_of d) t in
-    omega (arith, late, s)
-
-pub short_output : (d : source.Draft) (name : List ℕ) (t : Expression) → IsDraft d → first_rule (net_of d) (Output name t) ≡ None → found_span (find d.scope) t ≤ 1000000
-short_output d name t h e =
-    let late : body_span (net_of d) t ≤ 1000000 = ltb-false 1000000 _ (keeps (net_of d) (Output name t) e).early in
-    let s : found_span (find d.scope) t ≡ body_span (net_of d) t = ap (λ (g : List ℕ → Option Known). found_span g t) (looks d h) ∙ spans (net_of d) t in
-    omega (arith, late, s)
-
--- counts that are few are not capped
-uncapped : (k m b c : ℕ) → k ≡ m → b ≡ c → m + c ≤ 16384 → k + min b 20000 ≡ m + c
-uncapped k m b c e f h = omega (arith, e, f, h)
-
-pub let_kept : (d new : source.Draft) (name : List ℕ) (t : Expression) → IsDraft d → allows d.stage (Let name t) ≡ true → first_rule (net_of d) (Let name t) ≡ None → written_nesting t ≤ 64
-    → AddsName d.scope new.scope name (known (place.Let (vec_len d.lets)) (min (found_span (find d.scope) t) 1000001)) → new.stage ≡ stage.Lets → net_of new ≡ extended (net_of d) (Let name t)
-    → new.joins ≡ d.joins + min (written_joins t) 20000 → new.delays ≡ d.delays + min (written_delays t) 20000 → Adds d (Let name t) new
-let_kept d new name t h a rule deep scope last same js ds =
-    let n = net_of d in
-    let f = Let name t in
-    let e = equation n name t in
-    let k = keeps n f rule in
-    let p = parts_let d.stage n name t a h.parts in
-    let sound = sound_let n name t h.sound p.1 k deep in
-    let fresh = is_new n name (or_parts (list_any (bytes_eq name) (declared_names n)) false k.new).0 in
-    let late : body_span n t ≤ 1000000 = ltb-false 1000000 _ k.early in
-    let found : found_span (find d.scope) t ≡ body_span n t = ap (λ (g : List ℕ → Option Known). found_span g t) (looks d h) ∙ spans n t in
-    let capped : min (found_span (find d.scope) t) 1000001 ≡ body_span n t = omega (arith, found, late) in
-    let at : vec_len d.lets ≡ length d.lets.items = omega (arith, d.lets.ok) in
-    let j = sum_between (λ (x : Equation). joins x.body) d.lets.items d.outputs.items e in
-    let m = sum_between (λ (x : Equation). delays x.body) d.lets.items d.outputs.items e in
-    let jl : joins_in n + joins (resolved n t) ≤ 16384 = let s = sound.few_joins in omega (arith, s, j) in
-    let ml : delays_in n + delays (resolved n t) ≤ 16384 = let s = sound.few_delays in omega (arith, s, m) in
+pub nothing_kept : (d : source.Draft) → ((t : List ℕ) → find d.scope t ≡ None) → so_far d ≡ nothing_yet → d.joins ≡ 0 → d.delays ≡ 0 → IsDraft d
+nothing_kept d none e js ds =
+    let same : net_of d ≡ net [] [] [] = ap (λ (s : SoFar). s.net) e in
     record {
-      now = λ i. record { stage = last i; net = same i };
-      draft = record {
-        names = λ u. scope u ∙ (λ i. cond (bytes_eq name u) (Some (known (place.Let (at i)) (capped i))) (h.names u i)) ∙ known_let n e (body_span n t) fresh refl u ∙ ap (λ (x : Net). known_in x u) (sym same);
-        joins = js ∙ uncapped d.joins (joins_in n) (written_joins t) (joins (resolved n t)) h.joins (resolved_joins n t) jl ∙ sym j ∙ ap joins_in (sym same);
-        delays = ds ∙ uncapped d.delays (delays_in n) (written_delays t) (delays (resolved n t)) h.delays (resolved_delays n t) ml ∙ sym m ∙ ap delays_in (sym same);
-        parts = subst (λ (x : Net). HasParts new.stage x) (sym same) (subst (λ (s : Stage). HasParts s (extended n f)) (sym last) p);
-        sound = subst IsSound (sym same) sound;
-      };
-    }
-
-pub output_kept : (d new : source.Draft) (name : List ℕ) (t : Expression) → IsDraft d → allows d.stage (Output name t) ≡ true → first_rule (net_of d) (Output name t) ≡ None → written_nesting t ≤ 64
-    → AddsName d.scope new.scope name (known place.Output 0) → new.stage ≡ stage.Outputs → net_of new ≡ extended (net_of d) (Output name t)
-    → new.joins ≡ d.joins + min (written_joins t) 20000 → new.delays ≡ d.delays + min (written_delays t) 20000 → Adds d (Output name t) new
-output_kept d new name t h a rule deep scope last same js ds =
-    let n = net_of d in
-    let f = Output name t in
-    let e = equation n name t in
-    let k = keeps n f rule in
-    let p = parts_output d.stage n name t a h.parts in
-    let sound = sound_output n name t h.sound k deep in
-    let fresh = is_new n name (or_parts (list_any (bytes_eq name) (declared_names n)) false k.new).0 in
-    let j = sum_last (λ (x : Equation). joins x.body) d.lets.items d.outputs.items e in
-    let m = sum_last (λ (x : Equation). delays x.body) d.lets.items d.outputs.items e in
-    let jl : joins_in n + joins (resolved n t) ≤ 16384 = let s = sound.few_joins in omega (arith, s, j) in
-    let ml : delays_in n + delays (resolved n t) ≤ 16384 = let s = sound.few_delays in omega (arith, s, m) in
-    let some : 1 ≤ length (n.outputs ++ e ∷ []) = let l = length-append n.outputs (e ∷ []) in omega (arith, l) in
-    record {
-      now = λ i. record { stage = last i; net = same i };
-      draft = record {
-        names = λ u. scope u ∙ (λ i. cond (bytes_eq name u) (Some (known place.Output 0)) (h.names u i)) ∙ known_output n e fresh u ∙ ap (λ (x : Net). known_in x u) (sym same);
-        joins = js ∙ uncapped d.joins (joins_in n) (written_joins t) (joins (resolved n t)) h.joins (resolved_joins n t) jl ∙ sym j ∙ ap joins_in (sym same);
-        delays = ds ∙ uncapped d.delays (delays_in n) (written_delays t) (delays (resolved n t)) h.delays (resolved_delays n t) ml ∙ sym m ∙ ap delays_in (sym same);
-        parts = subst (λ (x : Net). HasParts new.stage x) (sym same) (subst (λ (s : Stage). HasParts s (extended n f)) (sym last) (p, some));
-        sound = subst IsSound (sym same) sound;
-      };
+      names = λ t. none t ∙ ap (λ (n : Net). known_in n t) (sym same);
+      joins = js ∙ ap joins_in (sym same);
+      delays = ds ∙ ap delays_in (sym same);
+      part = subst IsPart (sym e) no_part;
     }
 
 pub found_is : (d : source.Draft) (t : Expression) → IsDraft d → found_formula (find d.scope) t ≡ resolved (net_of d) t
 found_is d t h = ap (λ (g : List ℕ → Option Known). found_formula g t) (looks d h) ∙ formulas (net_of d) t
 
 -- the binding that was made is the line's
-pub binding_is : (d : source.Draft) (name made : List ℕ) (t : Expression) (body : Formula) → IsDraft d → made ≡ name → body ≡ found_formula (find d.scope) t
-    → (es : List Equation) (e : Equation) → e ≡ record { name = made; body = body } → es ++ e ∷ [] ≡ es ++ equation (net_of d) name t ∷ []
-binding_is d name made t body h m b es e is =
-    ap (λ (x : Equation). es ++ x ∷ []) (is ∙ (λ i. record { name = m i; body = (b ∙ found_is d t h) i }))
+pub made_is : (d : source.Draft) (name made : List ℕ) (t : Expression) (body : Formula) → IsDraft d → made ≡ name → body ≡ found_formula (find d.scope) t → (e : Equation) → e ≡ record { name = made; body = body } → e ≡ equation (net_of d) name t
+made_is d name made t body h m b e is = is ∙ (λ i. record { name = m i; body = (b ∙ found_is d t h) i })

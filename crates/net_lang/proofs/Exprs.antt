@@ -4,7 +4,8 @@ use Rattle.std.specs.Prelude.{codes, max}
 use Rattle.net_lang.specs.declared.reader.word.Key.{Key}
 use Rattle.net_lang.specs.declared.reader.word.Key.TheVariants as key
 use Rattle.rl_text.specs.Lines.{Word}
-use Rattle.net_lang.specs.Grammar.{Expression, Never, Name, Min, Max, Lt, Inc, name, number, open_, comma, close, spelled, IsWritten, written_nesting, Spells}
+use Rattle.rl_text.specs.Writing.{name, number}
+use Rattle.net_lang.specs.Grammar.{Expression, Never, Name, Min, Max, Lt, Inc, open_, comma, close, spelled, IsWritten, written_nesting, Spells}
 use Rattle.rl_text.specs.Numbers.{is_plain}
 use Rattle.net_lang.specs.Reading.{◌>>=◌, Read, after_sign, constant, keyword, key_of, pair, delay, leaf, operation, expr_at}
 use Rattle.net_lang.proofs.WordLemmas.{some_is, bind_some, after_sign_some, after_sign-sign, constant_some, constant-number, key_of_name, key_of_text, key_of-name, plain_is, is_plain_key}

@@ -7,8 +7,11 @@ use Rattle.std.proofs.lemmas.Slice.Eq.{bytes_eq-Decides}
 use Rattle.rl_text.specs.declared.token.Kind.{Kind}
 use Rattle.rl_text.specs.declared.token.Kind.TheVariants as kind
 use Rattle.rl_text.specs.Lines.{Word}
-use Rattle.net_lang.specs.Grammar.{Expression, name, number, sign, spelled, IsWritten, written_nesting}
-use Rattle.net_lang.specs.Forms.{Form, Header, Inputs, Let, Output, spelled_form, IsFormed, IsLine}
+use Rattle.net_lang.specs.declared.reader.rules.Target.{Target}
+use Rattle.net_lang.specs.declared.reader.rules.Target.TheVariants as target
+use Rattle.rl_text.specs.Writing.{name, number, sign}
+use Rattle.net_lang.specs.Grammar.{Expression, spelled, IsWritten, written_nesting}
+use Rattle.net_lang.specs.Forms.{Form, Header, Inputs, Define, target_word, spelled_form, IsFormed, IsLine}
 use Rattle.net_lang.specs.FormReading.{is_name, names_at, name_at, ended, binding_at, is_one, nonempty, by_word, form_at}
 use Rattle.net_lang.specs.Reading.{is_number, ◌>>=◌, after_sign, expr_at}
 use Rattle.net_lang.proofs.WordLemmas.{some_is, bind_some, guard_some, and_true, same_word, after_sign_some, after_sign-sign}
@@ -112,25 +115,19 @@ is_input t ws f h e =
     let rest = names_some ws b.0 b.1 in
     subst (λ (y : Form). IsLine (name t ∷ ws) y) g.0 (record { words = λ i. name (h i) ∷ rest i; formed = g.1 })
 
-is_let : (t : List ℕ) (ws : List Word) (f : Form) → t ≡ codes "let" → (binding_at ws >>= (λ b. Some (Let b.0 b.1))) ≡ Some f → IsLine (name t ∷ ws) f
-is_let t ws f h e =
-    let b = bind_some (binding_at ws) (λ b. Some (Let b.0 b.1)) f e in
+is_define : (k : Target) (t : List ℕ) (ws : List Word) (f : Form) → t ≡ target_word k → (binding_at ws >>= (λ b. Some (Define k b.0 b.1))) ≡ Some f → IsLine (name t ∷ ws) f
+is_define k t ws f h e =
+    let b = bind_some (binding_at ws) (λ b. Some (Define k b.0 b.1)) f e in
     let g = binding_some ws b.0 b.1 in
-    subst (λ (y : Form). IsLine (name t ∷ ws) y) (some_is (Let b.0.0 b.0.1) f b.2) (record { words = λ i. name (h i) ∷ g.words i; formed = (g.written, g.nested) })
-
-is_output : (t : List ℕ) (ws : List Word) (f : Form) → t ≡ codes "output" → (binding_at ws >>= (λ b. Some (Output b.0 b.1))) ≡ Some f → IsLine (name t ∷ ws) f
-is_output t ws f h e =
-    let b = bind_some (binding_at ws) (λ b. Some (Output b.0 b.1)) f e in
-    let g = binding_some ws b.0 b.1 in
-    subst (λ (y : Form). IsLine (name t ∷ ws) y) (some_is (Output b.0.0 b.0.1) f b.2) (record { words = λ i. name (h i) ∷ g.words i; formed = (g.written, g.nested) })
+    subst (λ (y : Form). IsLine (name t ∷ ws) y) (some_is (Define k b.0.0 b.0.1) f b.2) (record { words = λ i. name (h i) ∷ g.words i; formed = (g.written, g.nested) })
 
 by_word_some : (t : List ℕ) (ws : List Word) (f : Form) → by_word t ws ≡ Some f → IsLine (name t ∷ ws) f
 by_word_some t ws f e =
     let is = λ (u : List ℕ). (bytes_eq-Decides t u).0 in
     turn (IsLine (name t ∷ ws) f) (bytes_eq t (codes "racenet")) _ _ f (λ h. is_racenet t ws f (is (codes "racenet") h))
     (turn (IsLine (name t ∷ ws) f) (bytes_eq t (codes "input")) _ _ f (λ h. is_input t ws f (is (codes "input") h))
-    (turn (IsLine (name t ∷ ws) f) (bytes_eq t (codes "let")) _ _ f (λ h. is_let t ws f (is (codes "let") h))
-    (turn (IsLine (name t ∷ ws) f) (bytes_eq t (codes "output")) _ None f (λ h. is_output t ws f (is (codes "output") h)) (λ n. absurd cc)))) e
+    (turn (IsLine (name t ∷ ws) f) (bytes_eq t (codes "let")) _ _ f (λ h. is_define target.Let t ws f (is (codes "let") h))
+    (turn (IsLine (name t ∷ ws) f) (bytes_eq t (codes "output")) _ None f (λ h. is_define target.Output t ws f (is (codes "output") h)) (λ n. absurd cc)))) e
 
 pub form_some : (ws : List Word) (f : Form) → form_at ws ≡ Some f → IsLine ws f
 unfolding form_at
@@ -145,8 +142,8 @@ unfolding form_at
 form-spelled Header h = refl
 form-spelled (Inputs []) h = absurd (h refl)
 form-spelled (Inputs (n ∷ ns)) h = ap (λ o. o >>= nonempty) (names-spelled (n ∷ ns))
-form-spelled (Let n t) h = ap (λ o. o >>= (λ b. Some (Let b.0 b.1))) (binding-spelled n t h.0 h.1)
-form-spelled (Output n t) h = ap (λ o. o >>= (λ b. Some (Output b.0 b.1))) (binding-spelled n t h.0 h.1)
+form-spelled (Define target.Let n t) h = ap (λ o. o >>= (λ b. Some (Define target.Let b.0 b.1))) (binding-spelled n t h.0 h.1)
+form-spelled (Define target.Output n t) h = ap (λ o. o >>= (λ b. Some (Define target.Output b.0 b.1))) (binding-spelled n t h.0 h.1)
 
 pub form_again : (ws : List Word) (f : Form) → IsLine ws f → form_at ws ≡ Some f
 form_again ws f l = ap form_at l.words ∙ form-spelled f l.formed

@@ -9,9 +9,9 @@ use Rattle.std.proofs.lemmas.List.Sums.{fold-append}
 use Rattle.std.proofs.lemmas.Bool.{or_parts, and_parts}
 use Rattle.std.proofs.lemmas.Slice.Eq.{bytes_eq-Decides}
 use Rattle.net_lang.specs.declared.reader.scope.Place.TheVariants as place
-use Rattle.net_lang.specs.Formula as f
-use Rattle.net_lang.specs.Formula.{Equation, Net, net}
-use Rattle.net_lang.specs.Rules.{names_of, declared_names, joins, delays, nesting, span, let_spans, IsOver}
+use Rattle.net_model.specs.Formula as f
+use Rattle.net_model.specs.Formula.{Equation, Net, net}
+use Rattle.net_model.specs.Rules.{names_of, declared_names, joins, delays, nesting, span, let_spans, IsOver}
 use Rattle.net_lang.specs.Grammar.{Expression, Never, Name, Min, Max, Lt, Inc, written_nesting}
 use Rattle.net_lang.specs.Names.{place_from, place_of, named, resolved, knows}
 use Rattle.rl_text.specs.Numbers.{number_of}

@@ -8,9 +8,9 @@ use Rattle.std.proofs.lemmas.List.{get_or_append_left}
 use Rattle.std.proofs.lemmas.List.Folds.{list_any-append}
 use Rattle.std.proofs.lemmas.Slice.Eq.{bytes_eq-Decides}
 use Rattle.rl_text.specs.Laws.{DecimalsAreNumbers}
-use Rattle.net_lang.specs.Formula as f
-use Rattle.net_lang.specs.Formula.{Formula, Net}
-use Rattle.net_lang.specs.Rules.{is_let_name, are_distinct, names_of, IsOver, span}
+use Rattle.net_model.specs.Formula as f
+use Rattle.net_model.specs.Formula.{Formula, Net}
+use Rattle.net_model.specs.Rules.{is_let_name, are_distinct, names_of, IsOver, span}
 use Rattle.net_lang.specs.Names.{place_from, place_of, named, resolved, knows}
 use Rattle.net_lang.proofs.Knowing.{no_place, place_any, eq_comm}
 use Rattle.net_lang.proofs.PrintedWords.{written, IsPrintable}

@@ -5,20 +5,23 @@ use Rattle.std.specs.Str.{bytes_eq}
 use Rattle.std.proofs.lemmas.Bool.{and_parts, and_from}
 use Rattle.std.proofs.lemmas.List.{append-nil}
 use Rattle.rl_text.specs.Names.{is_name}
-use Rattle.rl_text.specs.Lines.{lines}
-use Rattle.rl_text.specs.Laws.{WrittenHasWords, DecimalsAreNumbers}
+use Rattle.rl_text.specs.Lines.{Word}
+use Rattle.rl_text.specs.Writing.{Writes}
+use Rattle.rl_text.specs.Laws.{DecimalsAreNumbers}
+use Rattle.line_lang.specs.Printing.{IsOneLine, words_on, AllKeep}
 use Rattle.net_lang.specs.declared.reader.rules.Stage.{Stage}
 use Rattle.net_lang.specs.declared.reader.rules.Stage.TheVariants as stage
-use Rattle.net_lang.specs.Formula.{Equation, Net, net}
-use Rattle.net_lang.specs.Rules.{is_let_name, are_distinct, names_of, IsNetwork}
-use Rattle.net_lang.specs.Forms.{Header, Inputs}
+use Rattle.net_lang.specs.declared.reader.rules.Target.TheVariants as target
+use Rattle.net_model.specs.Formula.{Equation, Net, net}
+use Rattle.net_model.specs.Rules.{is_let_name, are_distinct, names_of, IsNetwork}
+use Rattle.net_lang.specs.Forms.{Form, Header, Inputs, spelled_form}
 use Rattle.net_lang.specs.LineRules.{SoFar, nothing_yet, allows, first_rule, some_twice}
-use Rattle.net_lang.specs.Spelling.{SpellsNetwork}
-use Rattle.net_lang.specs.Text.{network_text}
-use Rattle.net_lang.proofs.PrintedWords.{let_form, output_form, forms, words_on, let_name_is, writes_network}
-use Rattle.net_lang.proofs.PrintedLines.{cut, lines_words, cut_forms, AllKeep, all_stand}
+use Rattle.net_lang.specs.Spelling.{networks, may_end, SpellsNetwork}
+use Rattle.net_model.specs.Text.{network_text}
+use Rattle.net_lang.proofs.PrintedWords.{defining, forms, let_name_is, writes_network}
+use Rattle.net_lang.proofs.PrintedLines.{one_line}
 use Rattle.net_lang.proofs.PrintedNames.{distinct_front, apart}
-use Rattle.net_lang.proofs.PrintedRules.{kept, few, is_formed, let_extends, output_extends, let_kept, output_kept, next_let, next_output, few_lets, few_outputs, let_name_here, output_name_here, lets_have_names, outputs_have_names, ports_are_lets}
+use Rattle.net_lang.proofs.PrintedRules.{kept, few, is_formed, extends, line_kept, next_let, next_output, few_lets, few_outputs, let_name_here, output_name_here, lets_have_names, outputs_have_names, ports_are_lets}
 
 -- ---- the first two lines
 
@@ -57,7 +60,7 @@ is_open stage.Inputs = true
 is_open stage.Lets = true
 is_open _ = false
 
-takes_let : (s : Stage) (x : Equation) (inputs lets : List (List ℕ)) → is_open s ≡ true → allows s (let_form inputs lets x) ≡ true
+takes_let : (s : Stage) (x : Equation) (inputs lets : List (List ℕ)) → is_open s ≡ true → allows s (defining target.Let inputs lets x) ≡ true
 unfolding is_open
 takes_let stage.Start x inputs lets h = absurd cc
 takes_let stage.Header x inputs lets h = absurd cc
@@ -69,7 +72,7 @@ may_output : Stage → Bool
 may_output stage.Outputs = true
 may_output s = is_open s
 
-takes_output : (s : Stage) (x : Equation) (inputs lets : List (List ℕ)) → may_output s ≡ true → allows s (output_form inputs lets x) ≡ true
+takes_output : (s : Stage) (x : Equation) (inputs lets : List (List ℕ)) → may_output s ≡ true → allows s (defining target.Output inputs lets x) ≡ true
 unfolding may_output is_open
 takes_output stage.Start x inputs lets h = absurd cc
 takes_output stage.Header x inputs lets h = absurd cc
@@ -88,20 +91,20 @@ open_may_output stage.Outputs h = absurd cc
 abbrev place : Stage → Net → SoFar
 place s m = record { stage = s; net = m }
 
--- the outputs, behind all lets
+-- the outputs, after all lets
 outputs_keep : DecimalsAreNumbers → (n : Net) (h : IsNetwork n) (done os : List Equation) (s : Stage) → may_output s ≡ true → n.outputs ≡ done ++ os → (os ≡ [] → s ≡ stage.Outputs)
-    → AllKeep (place s (net n.inputs n.lets done)) (map (output_form n.inputs (names_of n.lets)) os) (place stage.Outputs n)
+    → AllKeep networks spelled_form (place s (net n.inputs n.lets done)) (map (defining target.Output n.inputs (names_of n.lets)) os) (place stage.Outputs n)
 unfolding may_output is_open
 outputs_keep decimals n h done [] s may q end = λ i. place (end refl i) (net n.inputs n.lets ((sym (append-nil done) ∙ sym q) i))
 outputs_keep decimals n h done (e ∷ os) s may q end =
     let m = net n.inputs n.lets done in
     let next = next_output decimals n done e os h q in
     let more : n.outputs ≡ (done ++ e ∷ []) ++ os = q ∙ sym (append_assoc done (e ∷ []) os) in
-    let rule = output_kept m (names_of n.lets) e next (output_name_here n done e os h q) (few_outputs n (done ++ e ∷ []) os h more) in (
-      is_formed m (names_of n.lets) e next,
+    let rule = line_kept target.Output m (names_of n.lets) e next (output_name_here n done e os h q) (few_outputs n (done ++ e ∷ []) os h more) in (
+      record { words = refl; formed = is_formed m (names_of n.lets) e next },
       takes_output s e n.inputs (names_of n.lets) may,
       rule,
-      subst (λ (x : Net). AllKeep (place stage.Outputs x) (map (output_form n.inputs (names_of n.lets)) os) (place stage.Outputs n)) (sym (output_extends m (names_of n.lets) e next))
+      subst (λ (x : Net). AllKeep networks spelled_form (place stage.Outputs x) (map (defining target.Output n.inputs (names_of n.lets)) os) (place stage.Outputs n)) (sym (extends target.Output m (names_of n.lets) e next))
           (outputs_keep decimals n h (done ++ e ∷ []) os stage.Outputs refl more (λ _. refl)),
     )
 
@@ -109,28 +112,28 @@ some_outputs : (xs : List Equation) → 1 ≤ length xs → xs ≡ [] → (s : S
 some_outputs [] h e s = absurd (omega (arith, h))
 some_outputs (x ∷ xs) h e s = absurd cc
 
--- the lets, and the outputs behind them
+-- the lets, and the outputs after them
 lets_keep : DecimalsAreNumbers → (n : Net) (h : IsNetwork n) (done ls : List Equation) (s : Stage) → is_open s ≡ true → n.lets ≡ done ++ ls
-    → AllKeep (place s (net n.inputs done [])) (map (let_form n.inputs (names_of n.lets)) ls ++ map (output_form n.inputs (names_of n.lets)) n.outputs) (place stage.Outputs n)
+    → AllKeep networks spelled_form (place s (net n.inputs done [])) (map (defining target.Let n.inputs (names_of n.lets)) ls ++ map (defining target.Output n.inputs (names_of n.lets)) n.outputs) (place stage.Outputs n)
 unfolding is_open
 lets_keep decimals n h done [] s o q =
-    subst (λ (ls : List Equation). AllKeep (place s (net n.inputs ls [])) (map (output_form n.inputs (names_of n.lets)) n.outputs) (place stage.Outputs n)) (q ∙ append-nil done)
+    subst (λ (ls : List Equation). AllKeep networks spelled_form (place s (net n.inputs ls [])) (map (defining target.Output n.inputs (names_of n.lets)) n.outputs) (place stage.Outputs n)) (q ∙ append-nil done)
     (outputs_keep decimals n h [] n.outputs s (open_may_output s o) refl (λ none. some_outputs n.outputs h.some_output none s))
 lets_keep decimals n h done (e ∷ ls) s o q =
     let m = net n.inputs done [] in
     let next = next_let decimals n done e ls h q in
     let more : n.lets ≡ (done ++ e ∷ []) ++ ls = q ∙ sym (append_assoc done (e ∷ []) ls) in
-    let rule = let_kept m (names_of n.lets) e next (let_name_here n done e ls h q) (few_lets n (done ++ e ∷ []) ls h more) in (
-      is_formed m (names_of n.lets) e next,
+    let rule = line_kept target.Let m (names_of n.lets) e next (let_name_here n done e ls h q) (few_lets n (done ++ e ∷ []) ls h more) in (
+      record { words = refl; formed = is_formed m (names_of n.lets) e next },
       takes_let s e n.inputs (names_of n.lets) o,
       rule,
-      subst (λ (x : Net). AllKeep (place stage.Lets x) (map (let_form n.inputs (names_of n.lets)) ls ++ map (output_form n.inputs (names_of n.lets)) n.outputs) (place stage.Outputs n)) (sym (let_extends m (names_of n.lets) e next))
+      subst (λ (x : Net). AllKeep networks spelled_form (place stage.Lets x) (map (defining target.Let n.inputs (names_of n.lets)) ls ++ map (defining target.Output n.inputs (names_of n.lets)) n.outputs) (place stage.Outputs n)) (sym (extends target.Let m (names_of n.lets) e next))
           (lets_keep decimals n h (done ++ e ∷ []) ls stage.Lets refl more),
     )
 
-all_keep : DecimalsAreNumbers → (n : Net) → IsNetwork n → AllKeep nothing_yet (forms n) (place stage.Outputs n)
+all_keep : DecimalsAreNumbers → (n : Net) → IsNetwork n → AllKeep networks spelled_form nothing_yet (forms n) (place stage.Outputs n)
 unfolding is_open
-all_keep decimals n h = (tt, refl, header_kept, (some_inputs n.inputs h.some_input, refl, inputs_kept n h, lets_keep decimals n h [] n.lets stage.Inputs refl refl))
+all_keep decimals n h = (record { words = refl; formed = tt }, refl, header_kept, (record { words = refl; formed = some_inputs n.inputs h.some_input }, refl, inputs_kept n h, lets_keep decimals n h [] n.lets stage.Inputs refl refl))
 
 -- ---- the whole text
 
@@ -138,17 +141,10 @@ names_are : (xs : List (List ℕ)) → list_all is_let_name xs ≡ true → list
 names_are [] h = refl
 names_are (x ∷ xs) h = let a = and_parts (is_let_name x) (list_all is_let_name xs) h in and_from (is_name x) (list_all is_name xs) (let_name_is x a.0) (names_are xs a.1)
 
-pub printed : WrittenHasWords → DecimalsAreNumbers → (n : Net) → IsNetwork n → SpellsNetwork (network_text n) n
-printed have_words decimals n h =
-    let text = network_text n in
-    let writes = writes_network n (names_are n.inputs (ports_are_lets n.inputs h.input_names)) (lets_have_names decimals n h) (outputs_have_names decimals n h) in
-    let w = have_words text (words_on (forms n)) writes in
-    let same = lines_words text w.tokens ∙ ap cut w.words ∙ cut_forms (forms n) in
-    record {
-      tokens = w.tokens;
-      lexed = w.lexed;
-      last = place stage.Outputs n;
-      stand = all_stand nothing_yet (forms n) (lines text w.tokens) (place stage.Outputs n) same (all_keep decimals n h);
-      ends = refl;
-      network = refl;
-    }
+writes : DecimalsAreNumbers → (n : Net) → IsNetwork n → Writes (network_text n) (words_on spelled_form (forms n))
+writes decimals n h = writes_network n (names_are n.inputs (ports_are_lets n.inputs h.input_names)) (lets_have_names decimals n h) (outputs_have_names decimals n h)
+
+-- what is written with the lines of forms that break no rule spells what they are
+pub printed : ((spelled : Form → List Word) → ((x : Form) → IsOneLine (spelled x)) → (text : List ℕ) (xs : List Form) (last : SoFar) → Writes text (words_on spelled xs) → AllKeep networks spelled nothing_yet xs last
+      → may_end last.stage ≡ true → SpellsNetwork text last.net) → DecimalsAreNumbers → (n : Net) → IsNetwork n → SpellsNetwork (network_text n) n
+printed spell decimals n h = spell spelled_form one_line (network_text n) (forms n) (place stage.Outputs n) (writes decimals n h) (all_keep decimals n h) refl

@@ -8,15 +8,17 @@ use Rattle.std.proofs.lemmas.List.{append-nil, map-append, length-append, length
 use Rattle.std.proofs.lemmas.List.Folds.{list_all-append}
 use Rattle.std.proofs.lemmas.List.Sums.{fold-append, sum_by-append}
 use Rattle.rl_text.specs.Laws.{DecimalsAreNumbers}
-use Rattle.net_lang.specs.Formula.{Formula, Equation, Net, net}
-use Rattle.net_lang.specs.Rules.{is_let_name, is_port_name, begins_with_underscore, are_distinct, names_of, declared_names, joins, delays, nesting, span, IsOver, AreLets, let_spans, IsNetwork}
+use Rattle.net_model.specs.Formula.{Formula, Equation, Net, net}
+use Rattle.net_model.specs.Rules.{is_let_name, is_port_name, begins_with_underscore, are_distinct, names_of, declared_names, joins, delays, nesting, span, IsOver, AreLets, let_spans, IsNetwork}
+use Rattle.net_lang.specs.declared.reader.rules.Target.{Target}
+use Rattle.net_lang.specs.declared.reader.rules.Target.TheVariants as target
 use Rattle.net_lang.specs.Grammar.{IsWritten, written_nesting}
 use Rattle.net_lang.specs.Names.{resolved}
 use Rattle.net_lang.specs.Forms.{Form}
-use Rattle.net_lang.specs.LineRules.{extended, has_too_many, joins_in, delays_in, body_span, first_of, first_rule}
+use Rattle.net_lang.specs.LineRules.{extended, with_equation, may_have, has_too_many, joins_in, delays_in, body_span, first_of, first_rule}
 use Rattle.net_lang.proofs.Knowing.{resolved_nesting, let_spans_more, or_false}
 use Rattle.net_lang.proofs.Sound.{Keeps}
-use Rattle.net_lang.proofs.PrintedWords.{written, IsPrintable, is_written, let_form, output_form, HasNames, let_name_is}
+use Rattle.net_lang.proofs.PrintedWords.{written, IsPrintable, is_written, defining, HasNames, let_name_is}
 use Rattle.net_lang.proofs.PrintedNames.{distinct_front, apart, IsScope, scope, resolves, all_known, printable}
 
 -- a line of which each rule is kept breaks none
@@ -29,7 +31,7 @@ few n a b c d = λ i. le-ltb 64 (length n.inputs) a i || le-ltb 64 (length n.out
 
 -- ---- one line
 
--- the equation may stand behind what is there, where all lets have these names
+-- the equation may follow what is there, where all lets have these names
 pub record IsNext (m : Net) (lets : List (List ℕ)) (e : Equation) : Type 0 where
   pub new : list_any (bytes_eq e.name) (declared_names m) ≡ false
   pub over : IsOver (length m.inputs) (length m.lets) e.body
@@ -50,30 +52,18 @@ is_formed m lets e h =
     let low = h.shallow in
     (is_written m.inputs lets e.body h.printable, omega (arith, deep, low))
 
-pub let_extends : (m : Net) (lets : List (List ℕ)) (e : Equation) → IsNext m lets e → extended m (let_form m.inputs lets e) ≡ net m.inputs (m.lets ++ e ∷ []) m.outputs
-let_extends m lets e h = λ i. net m.inputs (m.lets ++ record { name = e.name; body = same_body m lets e h i } ∷ []) m.outputs
-
-pub output_extends : (m : Net) (lets : List (List ℕ)) (e : Equation) → IsNext m lets e → extended m (output_form m.inputs lets e) ≡ net m.inputs m.lets (m.outputs ++ e ∷ [])
-output_extends m lets e h = λ i. net m.inputs m.lets (m.outputs ++ record { name = e.name; body = same_body m lets e h i } ∷ [])
+pub extends : (k : Target) (m : Net) (lets : List (List ℕ)) (e : Equation) → IsNext m lets e → extended m (defining k m.inputs lets e) ≡ with_equation k m e
+extends k m lets e h = λ i. with_equation k m (record { name = e.name; body = same_body m lets e h i })
 
 early_is : (m : Net) (lets : List (List ℕ)) (e : Equation) → IsNext m lets e → ltb 1000000 (body_span m (written m.inputs lets e.body)) ≡ false
 early_is m lets e h = ap (λ (t : Formula). ltb 1000000 (span (let_spans m.lets) t)) (same_body m lets e h) ∙ le-ltb 1000000 (span (let_spans m.lets) e.body) h.early
 
-pub let_kept : (m : Net) (lets : List (List ℕ)) (e : Equation) → IsNext m lets e → is_let_name e.name ≡ true → has_too_many (net m.inputs (m.lets ++ e ∷ []) m.outputs) ≡ false → first_rule m (let_form m.inputs lets e) ≡ None
-let_kept m lets e h good low = kept m (let_form m.inputs lets e) (record {
+pub line_kept : (k : Target) (m : Net) (lets : List (List ℕ)) (e : Equation) → IsNext m lets e → may_have k e.name ≡ true → has_too_many (with_equation k m e) ≡ false → first_rule m (defining k m.inputs lets e) ≡ None
+line_kept k m lets e h good low = kept m (defining k m.inputs lets e) (record {
   good = ap not good;
   new = or_false (list_any (bytes_eq e.name) (declared_names m)) ∙ h.new;
   known = ap not (all_known m lets e.body h.scope (over_names m e.body h.over));
-  few = ap has_too_many (let_extends m lets e h) ∙ low;
-  early = early_is m lets e h;
-})
-
-pub output_kept : (m : Net) (lets : List (List ℕ)) (e : Equation) → IsNext m lets e → is_port_name e.name ≡ true → has_too_many (net m.inputs m.lets (m.outputs ++ e ∷ [])) ≡ false → first_rule m (output_form m.inputs lets e) ≡ None
-output_kept m lets e h good low = kept m (output_form m.inputs lets e) (record {
-  good = ap not good;
-  new = or_false (list_any (bytes_eq e.name) (declared_names m)) ∙ h.new;
-  known = ap not (all_known m lets e.body h.scope (over_names m e.body h.over));
-  few = ap has_too_many (output_extends m lets e h) ∙ low;
+  few = ap has_too_many (extends k m lets e h) ∙ low;
   early = early_is m lets e h;
 })
 
@@ -136,7 +126,7 @@ ports_are_lets (x ∷ xs) h =
 split_names : (xs : List Equation) (e : Equation) (ys : List Equation) → names_of (xs ++ e ∷ ys) ≡ names_of xs ++ e.name ∷ names_of ys
 split_names xs e ys = map-append (λ (x : Equation). x.name) xs (e ∷ ys)
 
--- a let, behind the lets before it
+-- a let, after the lets before it
 pub next_let : DecimalsAreNumbers → (n : Net) (done : List Equation) (e : Equation) (more : List Equation) → IsNetwork n → n.lets ≡ done ++ e ∷ more → IsNext (net n.inputs done []) (names_of n.lets) e
 next_let decimals n done e more h q =
     let names : names_of n.lets ≡ names_of done ++ e.name ∷ names_of more = ap names_of q ∙ split_names done e more in
@@ -157,7 +147,7 @@ next_let decimals n done e more h q =
       shallow = all_here (λ (x : Equation). nesting x.body ≤ 64) done e more (subst (AllByRecursion (λ (x : Equation). nesting x.body ≤ 64)) q (all_front (λ (x : Equation). nesting x.body ≤ 64) n.lets n.outputs h.shallow));
     }
 
--- an output, behind all lets and the outputs before it
+-- an output, after all lets and the outputs before it
 pub next_output : DecimalsAreNumbers → (n : Net) (done : List Equation) (e : Equation) (more : List Equation) → IsNetwork n → n.outputs ≡ done ++ e ∷ more → IsNext (net n.inputs n.lets done) (names_of n.lets) e
 next_output decimals n done e more h q =
     let inner = n.inputs ++ names_of n.lets in
@@ -204,7 +194,7 @@ output_name_here n done e more h q = name_here is_port_name (names_of done) e.na
 
 -- ---- what all equations of a network have
 
--- what holds of each element of a list, wherever it stands
+-- what holds of each element of a list, wherever it is
 all_from : {X : Type 0} (P : X → Type 0) (whole front behind : List X) → whole ≡ front ++ behind → ((done : List X) (x : X) (more : List X) → whole ≡ done ++ x ∷ more → P x) → AllByRecursion P behind
 all_from P whole front [] q each = tt
 all_from P whole front (x ∷ behind) q each = (each front x behind q, all_from P whole (front ++ x ∷ []) behind (q ∙ sym (append_assoc front (x ∷ []) behind)) each)

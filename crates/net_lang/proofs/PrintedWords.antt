@@ -7,13 +7,16 @@ use Rattle.std.proofs.lemmas.Bool.{and_parts, not-true}
 use Rattle.rl_text.specs.Names.{is_name}
 use Rattle.rl_text.specs.Lines.{Word}
 use Rattle.rl_text.specs.Numbers.{IsConstant}
-use Rattle.net_lang.specs.Formula as f
-use Rattle.net_lang.specs.Formula.{Formula, Equation, Net}
-use Rattle.net_lang.specs.Rules.{is_reserved, is_let_name, names_of}
-use Rattle.net_lang.specs.Grammar.{Expression, Never, Name, Min, Max, Lt, Inc, name, number, sign, open_, comma, close, spelled, IsWritten}
-use Rattle.net_lang.specs.Forms.{Form, Header, Inputs, Let, Output, spelled_form}
-use Rattle.net_lang.specs.Text.{call_text, formula_text, equation_text, equations_text, spaced_names, network_text}
-use Rattle.rl_text.specs.Writing.{newline, stops, Writes, Nothing, NameThen, NumberThen, SignThen, SpaceThen, NewlineThen}
+use Rattle.net_model.specs.Formula as f
+use Rattle.net_model.specs.Formula.{Formula, Equation, Net}
+use Rattle.net_model.specs.Rules.{is_reserved, is_let_name, names_of}
+use Rattle.net_lang.specs.Grammar.{Expression, Never, Name, Min, Max, Lt, Inc, open_, comma, close, spelled, IsWritten}
+use Rattle.net_lang.specs.declared.reader.rules.Target.{Target}
+use Rattle.net_lang.specs.declared.reader.rules.Target.TheVariants as target
+use Rattle.net_lang.specs.Forms.{Form, Header, Inputs, Define, target_word, spelled_form}
+use Rattle.net_model.specs.Text.{call_text, formula_text, equation_text, equations_text, spaced_names, network_text}
+use Rattle.rl_text.specs.Writing.{name, number, sign, newline, stops, Writes, Nothing, NameThen, NumberThen, SignThen, SpaceThen, NewlineThen}
+use Rattle.line_lang.specs.Printing.{words_on}
 
 -- a formula as it is printed, by the names of the inputs and of the lets
 abbrev pub written : List (List ℕ) → List (List ℕ) → Formula → Expression
@@ -92,19 +95,13 @@ writes_formula inputs lets (f.Inc a c) h =
 
 -- ---- lines
 
--- the words of lines, each with a newline behind it
-abbrev pub words_on : List Form → List Word
-words_on forms = flat_map (λ x. spelled_form x ++ newline ∷ []) forms
-
-abbrev pub let_form : List (List ℕ) → List (List ℕ) → Equation → Form
-let_form inputs lets e = Let e.name (written inputs lets e.body)
-
-abbrev pub output_form : List (List ℕ) → List (List ℕ) → Equation → Form
-output_form inputs lets e = Output e.name (written inputs lets e.body)
+-- the line of a let or of an output
+abbrev pub defining : Target → List (List ℕ) → List (List ℕ) → Equation → Form
+defining k inputs lets e = Define k e.name (written inputs lets e.body)
 
 -- the lines of a network's printing
 abbrev pub forms : Net → List Form
-forms n = Header ∷ Inputs n.inputs ∷ map (let_form n.inputs (names_of n.lets)) n.lets ++ map (output_form n.inputs (names_of n.lets)) n.outputs
+forms n = Header ∷ Inputs n.inputs ∷ map (defining target.Let n.inputs (names_of n.lets)) n.lets ++ map (defining target.Output n.inputs (names_of n.lets)) n.outputs
 
 -- its name is one, and what it names has one
 abbrev pub HasNames : List (List ℕ) → List (List ℕ) → Equation → Type 0
@@ -125,26 +122,22 @@ writes_equation w inputs lets e rest ws h p r =
     subst (λ (t : List ℕ). Writes t (name w ∷ name e.name ∷ sign (codes "=") ∷ vs)) (sym (equation_bytes w e.name x rest)) all
 
 -- lines in front of others
-pub line_words : (a b : List Word) (x : Word) (ws : List Word) → ((a ++ x ∷ []) ++ b) ++ ws ≡ a ++ (x ∷ (b ++ ws))
+line_words : (a b : List Word) (x : Word) (ws : List Word) → ((a ++ x ∷ []) ++ b) ++ ws ≡ a ++ (x ∷ (b ++ ws))
 line_words a b x ws = simp append_assoc
 
-writes_lets : (inputs lets : List (List ℕ)) (es : List Equation) (rest : List ℕ) (ws : List Word) → AllByRecursion (HasNames inputs lets) es → Writes rest ws
-    → Writes (equations_text (codes "let ") inputs lets es ++ rest) (words_on (map (let_form inputs lets) es) ++ ws)
-writes_lets inputs lets [] rest ws h r = r
-writes_lets inputs lets (e ∷ es) rest ws h r =
-    let more = writes_equation (codes "let") inputs lets e (equations_text (codes "let ") inputs lets es ++ rest) (words_on (map (let_form inputs lets) es) ++ ws) refl h.0 (writes_lets inputs lets es rest ws h.1 r) in
-    subst (λ (t : List ℕ). Writes t (words_on (map (let_form inputs lets) (e ∷ es)) ++ ws)) (sym (append_assoc (equation_text (codes "let ") inputs lets e) (equations_text (codes "let ") inputs lets es) rest))
-    (subst (λ (x : List Word). Writes (equation_text (codes "let ") inputs lets e ++ (equations_text (codes "let ") inputs lets es ++ rest)) x)
-    (sym (line_words (spelled_form (let_form inputs lets e)) (words_on (map (let_form inputs lets) es)) newline ws)) more)
+target_is_name : (k : Target) → is_name (target_word k) ≡ true
+target_is_name target.Let = refl
+target_is_name target.Output = refl
 
-writes_outputs : (inputs lets : List (List ℕ)) (es : List Equation) (rest : List ℕ) (ws : List Word) → AllByRecursion (HasNames inputs lets) es → Writes rest ws
-    → Writes (equations_text (codes "output ") inputs lets es ++ rest) (words_on (map (output_form inputs lets) es) ++ ws)
-writes_outputs inputs lets [] rest ws h r = r
-writes_outputs inputs lets (e ∷ es) rest ws h r =
-    let more = writes_equation (codes "output") inputs lets e (equations_text (codes "output ") inputs lets es ++ rest) (words_on (map (output_form inputs lets) es) ++ ws) refl h.0 (writes_outputs inputs lets es rest ws h.1 r) in
-    subst (λ (t : List ℕ). Writes t (words_on (map (output_form inputs lets) (e ∷ es)) ++ ws)) (sym (append_assoc (equation_text (codes "output ") inputs lets e) (equations_text (codes "output ") inputs lets es) rest))
-    (subst (λ (x : List Word). Writes (equation_text (codes "output ") inputs lets e ++ (equations_text (codes "output ") inputs lets es ++ rest)) x)
-    (sym (line_words (spelled_form (output_form inputs lets e)) (words_on (map (output_form inputs lets) es)) newline ws)) more)
+writes_all : (k : Target) (inputs lets : List (List ℕ)) (es : List Equation) (rest : List ℕ) (ws : List Word) → AllByRecursion (HasNames inputs lets) es → Writes rest ws
+    → Writes (equations_text (target_word k ++ codes " ") inputs lets es ++ rest) (words_on spelled_form (map (defining k inputs lets) es) ++ ws)
+writes_all k inputs lets [] rest ws h r = r
+writes_all k inputs lets (e ∷ es) rest ws h r =
+    let w = target_word k ++ codes " " in
+    let forms = map (defining k inputs lets) es in
+    let more = writes_equation (target_word k) inputs lets e (equations_text w inputs lets es ++ rest) (words_on spelled_form forms ++ ws) (target_is_name k) h.0 (writes_all k inputs lets es rest ws h.1 r) in
+    subst (λ (t : List ℕ). Writes t (words_on spelled_form (map (defining k inputs lets) (e ∷ es)) ++ ws)) (sym (append_assoc (equation_text w inputs lets e) (equations_text w inputs lets es) rest))
+    (subst (λ (x : List Word). Writes (equation_text w inputs lets e ++ (equations_text w inputs lets es ++ rest)) x) (sym (line_words (spelled_form (defining k inputs lets e)) (words_on spelled_form forms) newline ws)) more)
 
 names_stop : (names : List (List ℕ)) (rest : List ℕ) → stops rest ≡ true → stops (spaced_names names ++ rest) ≡ true
 names_stop [] rest s = s
@@ -179,22 +172,22 @@ network_words : (names l o : List Word) → name (codes "racenet") ∷ number (c
     ≡ ((name (codes "racenet") ∷ number (codes "1") ∷ []) ++ newline ∷ []) ++ (((name (codes "input") ∷ names) ++ newline ∷ []) ++ (l ++ o))
 network_words names l o = simp (append_assoc, append-nil)
 
-words_on-append : (xs ys : List Form) → words_on (xs ++ ys) ≡ words_on xs ++ words_on ys
+words_on-append : (xs ys : List Form) → words_on spelled_form (xs ++ ys) ≡ words_on spelled_form xs ++ words_on spelled_form ys
 words_on-append [] ys = refl
-words_on-append (x ∷ xs) ys = ap (λ (ws : List Word). (spelled_form x ++ newline ∷ []) ++ ws) (words_on-append xs ys) ∙ sym (append_assoc (spelled_form x ++ newline ∷ []) (words_on xs) (words_on ys))
+words_on-append (x ∷ xs) ys = ap (λ (ws : List Word). (spelled_form x ++ newline ∷ []) ++ ws) (words_on-append xs ys) ∙ sym (append_assoc (spelled_form x ++ newline ∷ []) (words_on spelled_form xs) (words_on spelled_form ys))
 
-pub writes_network : (n : Net) → list_all is_name n.inputs ≡ true → AllByRecursion (HasNames n.inputs (names_of n.lets)) n.lets → AllByRecursion (HasNames n.inputs (names_of n.lets)) n.outputs → Writes (network_text n) (words_on (forms n))
+pub writes_network : (n : Net) → list_all is_name n.inputs ≡ true → AllByRecursion (HasNames n.inputs (names_of n.lets)) n.lets → AllByRecursion (HasNames n.inputs (names_of n.lets)) n.outputs → Writes (network_text n) (words_on spelled_form (forms n))
 unfolding network_text
 writes_network n ins lets outs =
     let names = names_of n.lets in
-    let ls = map (let_form n.inputs names) n.lets in
-    let os = map (output_form n.inputs names) n.outputs in
+    let ls = map (defining target.Let n.inputs names) n.lets in
+    let os = map (defining target.Output n.inputs names) n.outputs in
     let lt = equations_text (codes "let ") n.inputs names n.lets in
     let ot = equations_text (codes "output ") n.inputs names n.outputs in
-    let last = writes_outputs n.inputs names n.outputs [] [] outs Nothing in
-    let middle = writes_lets n.inputs names n.lets (ot ++ []) (words_on os ++ []) lets last in
-    let all = writes_head n.inputs (lt ++ (ot ++ [])) (words_on ls ++ (words_on os ++ [])) ins middle in
-    let same : name (codes "racenet") ∷ number (codes "1") ∷ newline ∷ name (codes "input") ∷ (map name n.inputs ++ (newline ∷ (words_on ls ++ (words_on os ++ [])))) ≡ words_on (forms n) =
-    network_words (map name n.inputs) (words_on ls) (words_on os)
+    let last = writes_all target.Output n.inputs names n.outputs [] [] outs Nothing in
+    let middle = writes_all target.Let n.inputs names n.lets (ot ++ []) (words_on spelled_form os ++ []) lets last in
+    let all = writes_head n.inputs (lt ++ (ot ++ [])) (words_on spelled_form ls ++ (words_on spelled_form os ++ [])) ins middle in
+    let same : name (codes "racenet") ∷ number (codes "1") ∷ newline ∷ name (codes "input") ∷ (map name n.inputs ++ (newline ∷ (words_on spelled_form ls ++ (words_on spelled_form os ++ [])))) ≡ words_on spelled_form (forms n) =
+    network_words (map name n.inputs) (words_on spelled_form ls) (words_on spelled_form os)
     ∙ ap (λ (ws : List Word). (spelled_form Header ++ newline ∷ []) ++ ((spelled_form (Inputs n.inputs) ++ newline ∷ []) ++ ws)) (sym (words_on-append ls os)) in
-    subst (λ (t : List ℕ). Writes t (words_on (forms n))) (sym (network_bytes (spaced_names n.inputs) lt ot)) (subst (λ (ws : List Word). Writes (codes "racenet 1\ninput" ++ (spaced_names n.inputs ++ (10 ∷ (lt ++ (ot ++ []))))) ws) same all)
+    subst (λ (t : List ℕ). Writes t (words_on spelled_form (forms n))) (sym (network_bytes (spaced_names n.inputs) lt ot)) (subst (λ (ws : List Word). Writes (codes "racenet 1\ninput" ++ (spaced_names n.inputs ++ (10 ∷ (lt ++ (ot ++ []))))) ws) same all)

@@ -5,11 +5,12 @@ use Rattle.std.specs.Str.{bytes_eq}
 use Rattle.std.proofs.lemmas.Bool.{ltb-false, or_parts, and_from, and_parts}
 use Rattle.std.proofs.lemmas.List.{append-nil, append_assoc, map-append}
 use Rattle.std.proofs.lemmas.List.Folds.{list_any-append, list_all-append}
-use Rattle.net_lang.specs.Formula.{Equation, Net}
-use Rattle.net_lang.specs.Rules.{is_let_name, is_port_name, are_distinct, names_of, declared_names, nesting, span, IsOver, AreLets, let_spans, output_spans}
+use Rattle.net_model.specs.Formula.{Equation, Net}
+use Rattle.net_model.specs.Rules.{is_let_name, is_port_name, are_distinct, names_of, declared_names, nesting, span, IsOver, AreLets, let_spans, output_spans}
+use Rattle.net_lang.specs.declared.reader.rules.Target.TheVariants as target
 use Rattle.net_lang.specs.Grammar.{Expression, written_nesting}
 use Rattle.net_lang.specs.Names.{resolved, knows}
-use Rattle.net_lang.specs.Forms.{Form, Inputs, Let, Output}
+use Rattle.net_lang.specs.Forms.{Form, Inputs, Define}
 use Rattle.net_lang.specs.LineRules.{equation, extended, has_bad_name, has_doubled_name, has_unknown_name, has_too_many, is_too_late, some_twice, joins_in, delays_in, first_of, first_rule}
 use Rattle.net_lang.specs.Draft.{IsSound}
 use Rattle.net_lang.proofs.Knowing.{resolved_nesting, resolved_over, let_spans_more, names_more, eq_comm}
@@ -95,15 +96,15 @@ good_name false e = absurd cc
 
 -- ---- a line more
 
-pub sound_let : (n : Net) (name : List ℕ) (t : Expression) → IsSound n → n.outputs ≡ [] → Keeps n (Let name t) → written_nesting t ≤ 64 → IsSound (extended n (Let name t))
+pub sound_let : (n : Net) (name : List ℕ) (t : Expression) → IsSound n → n.outputs ≡ [] → Keeps n (Define target.Let name t) → written_nesting t ≤ 64 → IsSound (extended n (Define target.Let name t))
 sound_let n name t h none k deep =
     let e = equation n name t in
-    let few = few_from (extended n (Let name t)) k.few in
+    let few = few_from (extended n (Define target.Let name t)) k.few in
     let new = or_parts (list_any (bytes_eq name) (declared_names n)) false k.new in
     let over : IsOver (length n.inputs) (length n.lets) (resolved n t) = resolved_over n t (good_name (knows n t) k.known) in
     let z : 0 + length n.lets ≡ length n.lets = omega arith in
     let outs : names_of n.outputs ≡ [] = ap names_of none in
-    let same_names : declared_names n ++ name ∷ [] ≡ declared_names (extended n (Let name t)) =
+    let same_names : declared_names n ++ name ∷ [] ≡ declared_names (extended n (Define target.Let name t)) =
     (λ i. (n.inputs ++ names_of n.lets ++ outs i) ++ name ∷ []) ∙ ap (λ (xs : List (List ℕ)). xs ++ name ∷ []) (append-nil (n.inputs ++ names_of n.lets)) ∙ append_assoc n.inputs (names_of n.lets) (name ∷ [])
     ∙ ap (λ (xs : List (List ℕ)). n.inputs ++ xs) (sym (names_more n.lets e)) ∙ sym (append-nil (n.inputs ++ names_of (n.lets ++ e ∷ []))) ∙ (λ i. n.inputs ++ names_of (n.lets ++ e ∷ []) ++ sym outs i) in
     let late : span (let_spans n.lets) (resolved n t) ≤ 1000000 = ltb-false 1000000 _ k.early in
@@ -123,13 +124,13 @@ sound_let n name t h none k deep =
       short_outputs = subst (λ (os : List Equation). AllByRecursion (λ (s : ℕ). s ≤ 1000000) (map (λ (x : Equation). span (let_spans (n.lets ++ e ∷ [])) x.body) os)) (sym none) tt;
     }
 
-pub sound_output : (n : Net) (name : List ℕ) (t : Expression) → IsSound n → Keeps n (Output name t) → written_nesting t ≤ 64 → IsSound (extended n (Output name t))
+pub sound_output : (n : Net) (name : List ℕ) (t : Expression) → IsSound n → Keeps n (Define target.Output name t) → written_nesting t ≤ 64 → IsSound (extended n (Define target.Output name t))
 sound_output n name t h k deep =
     let e = equation n name t in
-    let few = few_from (extended n (Output name t)) k.few in
+    let few = few_from (extended n (Define target.Output name t)) k.few in
     let new = or_parts (list_any (bytes_eq name) (declared_names n)) false k.new in
     let over : IsOver (length n.inputs) (length n.lets) (resolved n t) = resolved_over n t (good_name (knows n t) k.known) in
-    let same_names : declared_names n ++ name ∷ [] ≡ declared_names (extended n (Output name t)) =
+    let same_names : declared_names n ++ name ∷ [] ≡ declared_names (extended n (Define target.Output name t)) =
     append_assoc (n.inputs ++ names_of n.lets) (names_of n.outputs) (name ∷ []) ∙ ap (λ (xs : List (List ℕ)). n.inputs ++ names_of n.lets ++ xs) (sym (names_more n.outputs e)) in
     let late : span (let_spans n.lets) (resolved n t) ≤ 1000000 = ltb-false 1000000 _ k.early in
     record {

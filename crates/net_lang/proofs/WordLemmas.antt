@@ -9,8 +9,8 @@ use Rattle.rl_text.specs.declared.token.Kind.TheVariants as kind
 use Rattle.net_lang.specs.declared.reader.word.Key.{Key}
 use Rattle.net_lang.specs.declared.reader.word.Key.TheVariants as key
 use Rattle.rl_text.specs.Lines.{Word}
-use Rattle.net_lang.specs.Rules.{is_reserved}
-use Rattle.net_lang.specs.Grammar.{name, number, sign}
+use Rattle.net_model.specs.Rules.{is_reserved}
+use Rattle.rl_text.specs.Writing.{name, number, sign}
 use Rattle.rl_text.specs.Numbers.{is_plain}
 use Rattle.net_lang.specs.Reading.{◌>>=◌, is_symbol, is_number, after_sign, constant, keyword, key_at, key_of}
 

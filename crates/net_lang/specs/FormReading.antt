@@ -4,9 +4,11 @@ use Rattle.std.specs.Str.{bytes_eq}
 use Rattle.rl_text.specs.declared.token.Kind.{Kind}
 use Rattle.rl_text.specs.declared.token.Kind.TheVariants as kind
 use Rattle.rl_text.specs.Lines.{Word}
+use Rattle.net_model.specs.Limits.{most_nesting}
+use Rattle.net_lang.specs.declared.reader.rules.Target.TheVariants as target
 use Rattle.net_lang.specs.Grammar.{Expression}
 use Rattle.net_lang.specs.Reading.{◌>>=◌, is_number, after_sign, expr_at}
-use Rattle.net_lang.specs.Forms.{Form, Header, Inputs, Let, Output}
+use Rattle.net_lang.specs.Forms.{Form, Header, Inputs, Define}
 
 abbrev pub is_name : Kind → Bool
 is_name kind.Name = true
@@ -30,7 +32,7 @@ unfoldable pub binding_at : List Word → Option (List ℕ × Expression)
 binding_at ws = do
   n ← name_at ws
   e ← after_sign (codes "=") n.1
-  t ← expr_at 64 e
+  t ← expr_at most_nesting e
   ended (n.0, t.0) t.1
 
 abbrev pub is_one : List Word → Bool
@@ -46,8 +48,8 @@ abbrev pub by_word : List ℕ → List Word → Option Form
 by_word t ws =
     if bytes_eq t (codes "racenet") then (if is_one ws then Some Header else None)
     else (if bytes_eq t (codes "input") then names_at ws >>= nonempty
-    else (if bytes_eq t (codes "let") then binding_at ws >>= (λ b. Some (Let b.0 b.1))
-    else (if bytes_eq t (codes "output") then binding_at ws >>= (λ b. Some (Output b.0 b.1))
+    else (if bytes_eq t (codes "let") then binding_at ws >>= (λ b. Some (Define target.Let b.0 b.1))
+    else (if bytes_eq t (codes "output") then binding_at ws >>= (λ b. Some (Define target.Output b.0 b.1))
     else None)))
 
 unfoldable pub form_at : List Word → Option Form

@@ -1,9 +1,9 @@
 -- The grammar of expressions: which words each is spelled by.
 use Rattle.std.specs.Prelude.{◌≡◌, ◌≤◌, ℕ, suc, max, true, false, List, [], ◌∷◌, ◌++◌, codes}
-use Rattle.rl_text.specs.declared.token.Kind.TheVariants as kind
 use Rattle.rl_text.specs.Lines.{Word}
+use Rattle.rl_text.specs.Writing.{name, number, sign}
 use Rattle.rl_text.specs.Numbers.{is_plain}
-use Rattle.net_lang.specs.Rules.{is_reserved}
+use Rattle.net_model.specs.Rules.{is_reserved}
 
 -- an expression as it is written, with the bytes of its names and numbers
 pub data Expression : Type 0 where
@@ -13,15 +13,6 @@ pub data Expression : Type 0 where
   Max : Expression → Expression → Expression
   Lt : Expression → Expression → Expression
   Inc : Expression → List ℕ → Expression
-
-abbrev pub name : List ℕ → Word
-name t = record { kind = kind.Name; bytes = t }
-
-abbrev pub number : List ℕ → Word
-number t = record { kind = kind.Number; bytes = t }
-
-abbrev pub sign : List ℕ → Word
-sign t = record { kind = kind.Symbol; bytes = t }
 
 abbrev pub open_ : Word
 open_ = sign (codes "(")

@@ -1,26 +1,17 @@
 -- What the names of a network in the making stand for, as a reader looks them up.
-use Rattle.std.specs.Prelude.{◌≡◌, ℕ, ◌+◌, ◌^◌, ◌<◌, ◌≤◌, max, Bool, true, false, ◌&&◌, if◌then◌else◌, List, Option, Some, None, slice_index_or}
+use Rattle.std.specs.Prelude.{◌≡◌, ℕ, ◌+◌, ◌^◌, ◌<◌, ◌≤◌, max, min, Bool, true, false, ◌&&◌, if◌then◌else◌, List, Option, Some, None, slice_index_or}
 use Rattle.std.specs.List.{list_any}
 use Rattle.std.specs.Str.{bytes_eq}
-use Rattle.std.specs.Ordering.{nat_cmp}
-use Rattle.std.specs.Cmp.Lexicographic.{slice_cmp}
-use Rattle.std.specs.BTreeMap.{get_by}
 use Rattle.net_lang.specs.declared.reader.scope.Known.{Known}
+use Rattle.net_lang.specs.declared.reader.scope.Measured.{Measured}
 use Rattle.net_lang.specs.declared.reader.scope.Place.{Place}
 use Rattle.net_lang.specs.declared.reader.scope.Place.TheVariants as place
-use Rattle.net_lang.specs.declared.reader.scope.Scope as source
-use Rattle.net_lang.specs.Formula as f
-use Rattle.net_lang.specs.Formula.{Formula, Net}
-use Rattle.net_lang.specs.Rules.{names_of, let_spans}
+use Rattle.net_model.specs.Formula as f
+use Rattle.net_model.specs.Formula.{Formula, Net}
+use Rattle.net_model.specs.Rules.{names_of, let_spans}
 use Rattle.net_lang.specs.Grammar.{Expression, Never, Name, Min, Max, Lt, Inc}
 use Rattle.net_lang.specs.Names.{place_of}
 use Rattle.rl_text.specs.Numbers.{number_of}
-
-abbrev pub find : source.Scope → List ℕ → Option Known
-find s t = get_by (λ k. slice_cmp nat_cmp t k.now) s.map
-
-abbrev pub AddsName : source.Scope → source.Scope → List ℕ → Known → Type 0
-AddsName old new name known = (t : List ℕ) → find new t ≡ (if bytes_eq name t then Some known else find old t)
 
 abbrev pub known : Place → ℕ → Known
 known p s = record { place = p; span = s }
@@ -109,3 +100,10 @@ written_delays (Min a b) = written_delays a + written_delays b
 written_delays (Max a b) = written_delays a + written_delays b
 written_delays (Lt a b) = written_delays a + written_delays b
 written_delays (Inc a digits) = written_delays a + 1
+
+-- what was measured of an expression: whether its names are known, and its counts and its span, as far as they matter
+pub record Measures (find : List ℕ → Option Known) (t : Expression) (m : Measured) : Type 0 where
+  pub known : m.known ≡ finds_all find t
+  pub joins : m.joins ≡ min (written_joins t) 20000
+  pub delays : m.delays ≡ min (written_delays t) 20000
+  pub span : m.span ≡ min (found_span find t) 1000001

@@ -1,9 +1,3 @@
-pub mod Formula
-pub mod View
-pub mod Code
-pub mod Rules
-pub mod Value
-pub mod Text
 pub mod Grammar
 pub mod Reading
 pub mod Written

@@ -6,13 +6,16 @@ use Rattle.net_lang.specs.declared.reader.rules.Rule.{Rule}
 use Rattle.net_lang.specs.declared.reader.rules.Rule.TheVariants as rule
 use Rattle.net_lang.specs.declared.reader.rules.Stage.{Stage}
 use Rattle.net_lang.specs.declared.reader.rules.Stage.TheVariants as stage
-use Rattle.net_lang.specs.Formula.{Equation, Net, net}
-use Rattle.net_lang.specs.Rules.{is_let_name, is_port_name, declared_names, equations, joins, delays, span, let_spans}
+use Rattle.net_model.specs.Limits.{most_ports, most_joins, most_delays, most_span}
+use Rattle.net_lang.specs.declared.reader.rules.Target.{Target}
+use Rattle.net_lang.specs.declared.reader.rules.Target.TheVariants as target
+use Rattle.net_model.specs.Formula.{Equation, Net, net}
+use Rattle.net_model.specs.Rules.{is_let_name, is_port_name, declared_names, equations, joins, delays, span, let_spans}
 use Rattle.net_lang.specs.Grammar.{Expression}
 use Rattle.net_lang.specs.Names.{resolved, knows}
-use Rattle.net_lang.specs.Forms.{Form, Header, Inputs, Let, Output}
+use Rattle.net_lang.specs.Forms.{Form, Header, Inputs, Define}
 
--- what some lines of a text are: which form stands last, and the network so far
+-- what some lines of a text are: of which form the last is, and the network so far
 pub record SoFar : Type 0 where
   pub stage : Stage
   pub net : Net
@@ -25,40 +28,49 @@ abbrev pub allows : Stage → Form → Bool
 allows stage.Start Header = true
 allows stage.Header (Inputs names) = true
 allows stage.Inputs (Inputs names) = true
-allows stage.Inputs (Let name body) = true
-allows stage.Inputs (Output name body) = true
-allows stage.Lets (Let name body) = true
-allows stage.Lets (Output name body) = true
-allows stage.Outputs (Output name body) = true
+allows stage.Inputs (Define k name body) = true
+allows stage.Lets (Define k name body) = true
+allows stage.Outputs (Define target.Output name body) = true
 allows _ _ = false
+
+abbrev pub stage_after : Target → Stage
+stage_after target.Let = stage.Lets
+stage_after target.Output = stage.Outputs
 
 abbrev pub stage_of : Form → Stage
 stage_of Header = stage.Header
 stage_of (Inputs names) = stage.Inputs
-stage_of (Let name body) = stage.Lets
-stage_of (Output name body) = stage.Outputs
+stage_of (Define k name body) = stage_after k
 
 abbrev pub equation : Net → List ℕ → Expression → Equation
 equation n name body = record { name = name; body = resolved n body }
+
+-- the network with a let or an output more
+abbrev pub with_equation : Target → Net → Equation → Net
+with_equation target.Let n e = net n.inputs (n.lets ++ e ∷ []) n.outputs
+with_equation target.Output n e = net n.inputs n.lets (n.outputs ++ e ∷ [])
 
 -- the network with a line more
 abbrev pub extended : Net → Form → Net
 extended n Header = n
 extended n (Inputs names) = net (n.inputs ++ names) n.lets n.outputs
-extended n (Let name body) = net n.inputs (n.lets ++ equation n name body ∷ []) n.outputs
-extended n (Output name body) = net n.inputs n.lets (n.outputs ++ equation n name body ∷ [])
+extended n (Define k name body) = with_equation k n (equation n name body)
 
 abbrev pub after : SoFar → Form → SoFar
 after before f = record { stage = stage_of f; net = extended before.net f }
+
+-- a name that a let or an output may have
+abbrev pub may_have : Target → List ℕ → Bool
+may_have target.Let name = is_let_name name
+may_have target.Output name = is_port_name name
 
 -- a name that the line declares is none that it may declare
 abbrev pub has_bad_name : Form → Bool
 has_bad_name Header = false
 has_bad_name (Inputs names) = not (list_all is_port_name names)
-has_bad_name (Let name body) = not (is_let_name name)
-has_bad_name (Output name body) = not (is_port_name name)
+has_bad_name (Define k name body) = not (may_have k name)
 
--- one of the names stands among those before it
+-- one of the names is among those before it
 abbrev pub some_twice : List (List ℕ) → List (List ℕ) → Bool
 some_twice before [] = false
 some_twice before (n ∷ names) = list_any (bytes_eq n) before || some_twice (before ++ n ∷ []) names
@@ -66,8 +78,7 @@ some_twice before (n ∷ names) = list_any (bytes_eq n) before || some_twice (be
 abbrev pub names_declared : Form → List (List ℕ)
 names_declared Header = []
 names_declared (Inputs names) = names
-names_declared (Let name body) = name ∷ []
-names_declared (Output name body) = name ∷ []
+names_declared (Define k name body) = name ∷ []
 
 -- a name that the line declares is declared already, or earlier in the line
 abbrev pub has_doubled_name : Net → Form → Bool
@@ -75,8 +86,7 @@ has_doubled_name n f = some_twice (declared_names n) (names_declared f)
 
 -- a name in the line's expression is no input and no let
 abbrev pub has_unknown_name : Net → Form → Bool
-has_unknown_name n (Let name body) = not (knows n body)
-has_unknown_name n (Output name body) = not (knows n body)
+has_unknown_name n (Define k name body) = not (knows n body)
 has_unknown_name n _ = false
 
 -- how many of min, max and lt there are, and how many incs
@@ -87,7 +97,7 @@ abbrev pub delays_in : Net → ℕ
 delays_in n = sum_by (λ e. delays e.body) (equations n)
 
 abbrev pub is_over : ℕ → ℕ → ℕ → ℕ → Bool
-is_over inputs outputs joins delays = nat_lt 64 inputs || nat_lt 64 outputs || nat_lt 16384 joins || nat_lt 16384 delays
+is_over inputs outputs joins delays = nat_lt most_ports inputs || nat_lt most_ports outputs || nat_lt most_joins joins || nat_lt most_delays delays
 
 -- there is more of something than a network may have
 abbrev pub has_too_many : Net → Bool
@@ -98,8 +108,7 @@ body_span n body = span (let_spans n.lets) (resolved n body)
 
 -- the span of the line's expression is too great
 abbrev pub is_too_late : Net → Form → Bool
-is_too_late n (Let name body) = nat_lt 1000000 (body_span n body)
-is_too_late n (Output name body) = nat_lt 1000000 (body_span n body)
+is_too_late n (Define k name body) = nat_lt most_span (body_span n body)
 is_too_late n _ = false
 
 -- the first that holds, in the order of the rules

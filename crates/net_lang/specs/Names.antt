@@ -3,9 +3,9 @@ use Rattle.std.specs.Prelude.{ℕ, ◌+◌, Bool, true, ◌&&◌, if◌then◌el
 use Rattle.std.specs.List.{list_any}
 use Rattle.std.specs.Str.{bytes_eq}
 use Rattle.rl_text.specs.Numbers.{number_of}
-use Rattle.net_lang.specs.Formula as f
-use Rattle.net_lang.specs.Formula.{Formula, Net}
-use Rattle.net_lang.specs.Rules.{names_of}
+use Rattle.net_model.specs.Formula as f
+use Rattle.net_model.specs.Formula.{Formula, Net}
+use Rattle.net_model.specs.Rules.{names_of}
 use Rattle.net_lang.specs.Grammar.{Expression, Never, Name, Min, Max, Lt, Inc}
 
 -- the place of a name among names, where the first of them has the place i

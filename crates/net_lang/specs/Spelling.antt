@@ -1,60 +1,35 @@
 -- Which text spells which network, and which rule a text that spells none breaks first.
-use Rattle.std.specs.Prelude.{◌≡◌, ℕ, Bool, true, false, List, [], ◌∷◌, take, Some, None, ◌⊎◌}
-use Rattle.rl_text.specs.declared.token.Token.{Token}
-use Rattle.rl_text.specs.declared.token.Style.TheVariants as style
-use Rattle.rl_text.specs.Tokens.{line_behind, AreTokens, IsBad}
-use Rattle.rl_text.specs.Lines.{Word, Line, lines}
+use Rattle.std.specs.Prelude.{ℕ, Bool, true, false, List}
+use Rattle.line_lang.specs.Language.{Language}
+use Rattle.line_lang.specs.Spelling.{Spells, IsBroken}
 use Rattle.net_lang.specs.declared.reader.rules.Rule.{Rule}
 use Rattle.net_lang.specs.declared.reader.rules.Rule.TheVariants as rule
 use Rattle.net_lang.specs.declared.reader.rules.Stage.{Stage}
 use Rattle.net_lang.specs.declared.reader.rules.Stage.TheVariants as stage
-use Rattle.net_lang.specs.Formula.{Net}
+use Rattle.net_model.specs.Formula.{Net}
 use Rattle.net_lang.specs.Forms.{Form, IsLine}
 use Rattle.net_lang.specs.LineRules.{SoFar, nothing_yet, allows, after, first_rule}
 
--- the words are a line of this form, which stands behind the lines before
-pub record Stands (before : SoFar) (ws : List Word) (f : Form) : Type 0 where
-  pub line : IsLine ws f
-  pub allowed : allows before.stage f ≡ true
-  pub keeps : first_rule before.net f ≡ None
-
--- the line breaks this rule, and none before it in the order of the rules
-abbrev pub Breaks : SoFar → List Word → Rule → Type 0
-Breaks before ws rule.Syntax = (f : Form) → allows before.stage f ≡ true → IsLine ws f → ⊥
-Breaks before ws r = (f : Form) × IsLine ws f × (allows before.stage f ≡ true) × (first_rule before.net f ≡ Some r)
-
--- a text may end behind an output
+-- a text may end after an output
 abbrev pub may_end : Stage → Bool
 may_end stage.Outputs = true
 may_end _ = false
 
--- each of the lines stands behind those before it, and all together are `last`
-abbrev pub AllStand : SoFar → List Line → SoFar → Type 0
-AllStand before [] last = before ≡ last
-AllStand before (l ∷ ls) last = (f : Form) × Stands before l.words f × AllStand (after before f) ls last
+-- the language of networks: its lines, the rules that they keep, and the network that they are together
+abbrev pub networks : Language SoFar Form Rule Net
+networks = record {
+  IsLine = IsLine;
+  start = nothing_yet;
+  allows = λ before f. allows before.stage f;
+  first_rule = λ before f. first_rule before.net f;
+  after = after;
+  may_end = λ last. may_end last.stage;
+  value = λ last. last.net;
+  syntax = rule.Syntax;
+}
 
--- the rule that the lines break first, and the line that breaks it; `end` is the line of the text's end
-abbrev pub FirstBroken : SoFar → List Line → ℕ → Rule → ℕ → Type 0
-FirstBroken before [] end r n = (may_end before.stage ≡ false) × (r ≡ rule.Syntax) × (n ≡ end)
-FirstBroken before (l ∷ ls) end r n = (Breaks before l.words r × (n ≡ l.number)) ⊎ ((f : Form) × Stands before l.words f × FirstBroken (after before f) ls end r n)
+abbrev pub SpellsNetwork : List ℕ → Net → Type 0
+SpellsNetwork text n = Spells networks text n
 
--- the text spells the network: its lines all stand, the last is an output, and together they are the network
-pub record SpellsNetwork (text : List ℕ) (n : Net) : Type 0 where
-  pub tokens : List Token
-  pub lexed : AreTokens style.Race text tokens
-  pub last : SoFar
-  pub stand : AllStand nothing_yet (lines text tokens) last
-  pub ends : may_end last.stage ≡ true
-  pub network : n ≡ last.net
-
--- a byte of the text is bad, on this line
-pub record HasBadByte (text : List ℕ) (line : ℕ) : Type 0 where
-  pub place : ℕ
-  pub bad : IsBad style.Race text place
-  pub number : line ≡ line_behind (take place text)
-
--- the text has tokens, and this rule is broken first, on this line
-pub record BreaksFirst (text : List ℕ) (r : Rule) (line : ℕ) : Type 0 where
-  pub tokens : List Token
-  pub lexed : AreTokens style.Race text tokens
-  pub first : FirstBroken nothing_yet (lines text tokens) (line_behind text) r line
+abbrev pub IsBrokenNetwork : List ℕ → Rule → ℕ → Type 0
+IsBrokenNetwork text r n = IsBroken networks text r n

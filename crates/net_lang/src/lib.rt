@@ -1,17 +1,14 @@
-//! Networks of race logic: what they are, their text, and the reading of it.
+//! The text of networks: what it spells, the reading of it, and what its printing is.
 //!
-//! `NoMemory` is answered where memory ran out.
+//! `NoMemory` is reported where memory ran out.
 #![tactic(auto)]
 
-mod ast;
-mod print;
 mod printed;
 mod reader;
 
-pub use ast::{Binding, Expr, Network};
-pub use print::print_network;
+pub use net_model::{Binding, Expr, Name, Network, are_port_names, is_port_name, print_network};
 pub use printed::{printing_is_read, printing_spells};
 pub use reader::{
-    NetError, Rule, are_port_names, is_port_name, no_cause, one_cause, one_network, read_network,
+    NetError, Rule, a_network_or_a_cause, no_cause, one_cause, one_network, read_network,
+    what_is_spelled_is_a_network,
 };
-pub use rl_text::Name;

@@ -1,4 +1,5 @@
 //! Reading a network.
+mod define;
 mod draft;
 mod error;
 mod form;
@@ -7,18 +8,16 @@ mod judge;
 mod laws;
 mod line;
 mod measure;
-mod names;
 mod network;
-mod push;
 mod reading;
 mod rules;
 mod scope;
 mod word;
 mod written;
 
+pub use draft::Draft;
 pub use error::NetError;
-pub use laws::{no_cause, one_cause, one_network};
-pub use names::{are_port_names, is_port_name};
+pub use laws::{a_network_or_a_cause, no_cause, one_cause, one_network, what_is_spelled_is_a_network};
 pub use network::read_network;
 pub use rules::Rule;
 

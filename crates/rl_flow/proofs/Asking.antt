@@ -13,7 +13,7 @@ use Rattle.std.proofs.lemmas.Slice.Eq.{bytes_eq-Decides}
 use Rattle.rl_time.specs.declared.time.Time.{Time}
 use Rattle.rl_time.specs.declared.time.Time.TheVariants as time
 use Rattle.rl_time.specs.Text.{time_text, FitsIn64Bits}
-use Rattle.spike_eval.specs.Early.{IsAtMost, AreEarly}
+use Rattle.net_model.specs.Early.{IsAtMost, AreEarly}
 use Rattle.rl_flow.specs.Task.{command_of}
 use Rattle.rl_flow.specs.Words.{number_word, time_word, is_time_word, time_of}
 

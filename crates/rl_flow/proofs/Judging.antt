@@ -5,7 +5,7 @@ use Rattle.net_lang.specs.declared.reader.rules.Rule.{Rule}
 use Rattle.net_lang.specs.declared.reader.rules.Rule.TheVariants as rule
 use Rattle.net_lang.specs.declared.reader.error.NetError.{NetError}
 use Rattle.net_lang.specs.declared.reader.error.NetError.TheVariants as error
-use Rattle.net_lang.specs.Formula.{Net}
+use Rattle.net_model.specs.Formula.{Net}
 use Rattle.net_lang.specs.Spelling.{SpellsNetwork}
 use Rattle.net_lang.specs.Outcome as net
 use Rattle.func_table.specs.declared.reader.error.TableError.{TableError}

@@ -14,7 +14,7 @@ use Rattle.verilog_text.specs.Meaning.{State, IsSettled, Follows, IsHistory, Has
 use Rattle.gate_lower.specs.Netlist.{Output, Netlist}
 use Rattle.gate_lower.specs.Rules.{output_names}
 use Rattle.gate_lower.specs.Timing.{line_time, TimeIsLevel, AreGatesOf}
-use Rattle.net_lang.specs.Formula.{Net}
+use Rattle.net_model.specs.Formula.{Net}
 use Rattle.term_store.specs.Laws.{HaveItsValues}
 use Rattle.func_table.specs.Function.{table_function}
 use Rattle.func_table.specs.Rules.{IsTable}

@@ -4,9 +4,9 @@ use Rattle.std.specs.Prelude.{All, slice_index_or}
 use Rattle.std.specs.Str.{bytes_eq}
 use Rattle.std.proofs.lemmas.List.Quantifiers.{position-Some}
 use Rattle.std.proofs.lemmas.Slice.Eq.{bytes_eq-Decides}
-use Rattle.net_lang.specs.Formula.{Formula, Equation, Net}
-use Rattle.net_lang.specs.Formula as formula
-use Rattle.net_lang.specs.Rules.{names_of}
+use Rattle.net_model.specs.Formula.{Formula, Equation, Net}
+use Rattle.net_model.specs.Formula as formula
+use Rattle.net_model.specs.Rules.{names_of}
 use Rattle.spike_eval.specs.Outputs.{output_function}
 use Rattle.func_table.specs.Function.{table_function}
 use Rattle.func_table.specs.Sound.{AreSound}

@@ -7,9 +7,9 @@ use Rattle.rl_text.specs.Lines.{Word}
 use Rattle.rl_text.specs.First.{BeginsWith}
 use Rattle.net_lang.specs.declared.reader.rules.Rule.{Rule}
 use Rattle.net_lang.specs.Outcome as net
-use Rattle.net_lang.specs.Rules.{names_of}
+use Rattle.net_model.specs.Rules.{names_of}
 use Rattle.net_lang.specs.Spelling.{SpellsNetwork}
-use Rattle.net_lang.specs.Value.{space_time_function}
+use Rattle.net_model.specs.Value.{space_time_function}
 use Rattle.func_table.specs.declared.reader.rules.Rule.{Rule as TableRule}
 use Rattle.func_table.specs.Function.{table_function}
 use Rattle.func_table.specs.Outcome as table

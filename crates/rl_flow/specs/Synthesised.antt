@@ -1,10 +1,10 @@
 -- The network of a table.
 use Rattle.std.specs.Prelude.{◌≡◌, ℕ, ◌+◌, List, [], ◌∷◌, length}
 use Rattle.rl_time.specs.declared.time.Time.{Time}
-use Rattle.net_lang.specs.Formula.{Net}
+use Rattle.net_model.specs.Formula.{Net}
 use Rattle.net_lang.specs.Spelling.{SpellsNetwork}
-use Rattle.net_lang.specs.Text.{network_text}
-use Rattle.net_lang.specs.Value.{space_time_function}
+use Rattle.net_model.specs.Text.{network_text}
+use Rattle.net_model.specs.Value.{space_time_function}
 use Rattle.func_table.specs.Function.{table_function}
 use Rattle.func_table.specs.Table.{Table}
 use Rattle.term_store.specs.declared.node.Term.{Term}

@@ -3,7 +3,7 @@ use Rattle.std.specs.Prelude.{◌≡◌, ◌≤◌, ◌⊎◌, ℕ, List, length
 use Rattle.std.specs.List.{position}
 use Rattle.std.specs.Str.{bytes_eq}
 use Rattle.rl_time.specs.declared.time.Time.{Time}
-use Rattle.net_lang.specs.Formula.{Net}
+use Rattle.net_model.specs.Formula.{Net}
 use Rattle.net_lang.specs.Spelling.{SpellsNetwork}
 use Rattle.spike_eval.specs.Outputs.{output_function}
 use Rattle.func_table.specs.Function.{table_function}

@@ -1,7 +1,7 @@
 ghost use Rattle.std.specs.Prelude.{◌≡◌, ◌≤◌, map, IfOk, IfSome};
 ghost use Rattle.std.specs.List.{list_all};
 ghost use Rattle.std.specs.Option.{option_map};
-ghost use Rattle.spike_eval.specs.Early.{AreEarly};
+ghost use Rattle.net_model.specs.Early.{AreEarly};
 ghost use Rattle.rl_flow.specs.Words.{is_file_word, number_word, time_word, is_time_word, time_of, are_time_words, is_letter, is_name_byte, is_name_word, texts_of};
 ghost use Rattle.rl_flow.specs.Task.{Task, alone, eval_task, tabulate_task, sim_task, task_of, command_of};
 ghost use Rattle.rl_flow.specs.Request.{task, IsSmall};

@@ -1,6 +1,6 @@
 ghost use Rattle.std.specs.Prelude.{◌≡◌, ◌≤◌, length, IfOk, IfErr};
 ghost use Rattle.func_table.specs.Sound.{AreSound};
-ghost use Rattle.net_lang.specs.Text.{network_text};
+ghost use Rattle.net_model.specs.Text.{network_text};
 ghost use Rattle.rl_flow.specs.Sources.{IsUnreadable};
 ghost use Rattle.rl_flow.specs.Synthesised.{IsSynthesised, IsSynthesisText, IsNotSynthesised};
 

@@ -1,7 +1,7 @@
 ghost use Rattle.std.specs.Prelude.{◌≡◌, ◌≢◌, ◌≤◌, ◌++◌, ◌∷◌, [], ℕ, length, OnOk, IfOk, IfErr, Err};
-ghost use Rattle.net_lang.specs.Rules.{names_of};
-ghost use Rattle.net_lang.specs.Value.{space_time_function};
-ghost use Rattle.spike_eval.specs.Early.{AreEarly};
+ghost use Rattle.net_model.specs.Rules.{names_of};
+ghost use Rattle.net_model.specs.Value.{space_time_function};
+ghost use Rattle.net_model.specs.Early.{AreEarly};
 ghost use Rattle.func_table.specs.Function.{table_function};
 ghost use Rattle.rl_flow.specs.Sources.{inputs_of, outputs_of, function_of, IsUnreadable};
 ghost use Rattle.rl_flow.specs.Values.{value_line, value_lines, HasOtherInputs, IsValueText, IsNotValued};

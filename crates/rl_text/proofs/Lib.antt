@@ -8,3 +8,8 @@ pub mod Parts
 pub mod Firsts
 pub mod Decimals
 pub mod Written
+pub mod Falls
+pub mod CursorLines
+pub mod FewLines
+pub mod WordTurns
+pub mod Capped

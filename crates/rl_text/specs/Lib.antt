@@ -8,4 +8,6 @@ pub mod Front
 pub mod Words
 pub mod First
 pub mod Writing
+pub mod Cursor
 pub mod Laws
+pub mod NameMap

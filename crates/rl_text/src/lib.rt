@@ -4,27 +4,36 @@
 #![tactic(auto)]
 
 mod bytes;
+mod cursor;
 mod cut;
 mod first;
 mod front;
 mod laws;
 mod lexer;
 mod name;
+mod name_map;
+mod number;
+mod print;
 mod race;
 mod token;
 mod verilog;
 mod words;
 
-pub use cut::{lexemes, line_at, lines};
+pub use bytes::{is_digit, is_letter, is_name_byte};
+pub use cursor::{LineWords, Lines, first_bad};
+pub use cut::{lexemes, line_at};
 pub use first::first_word;
 pub use laws::{
-    decimals_are_numbers, front_is_longest, one_bad_place, one_first_word, one_list_of_tokens,
-    tokens_or_bad_place, written_texts_have_words,
+    bad_where_no_tokens, decimals_are_numbers, front_is_longest, one_bad_place, one_first_word,
+    one_list_of_tokens, tokens_or_bad_place, written_texts_have_words,
 };
 pub use lexer::lex;
-pub use name::{Name, is_name};
+pub use name::{Name, are_name_bytes, copy_names, is_name, numbered_name};
+pub use name_map::NameMap;
+pub use number::capped_number;
+pub use print::{put, put_number};
 pub use token::{Kind, LexError, Style, Token};
-pub use words::{Lexeme, Line, Word};
+pub use words::{Lexeme, Word};
 
 #[cfg(test)]
 mod tests;

@@ -8,10 +8,10 @@ use Rattle.std.proofs.lemmas.List.Elements.{All-from_recursion, recursion_from_A
 use Rattle.rl_time.specs.declared.time.Time.{Time}
 use Rattle.rl_time.specs.declared.time.Time.TheVariants as time
 use Rattle.rl_time.specs.Time.{time_min, time_max, time_lt, time_inc, HasRoom}
-use Rattle.net_lang.specs.Formula.{Formula, Never, Input, Named, Min, Max, Lt, Inc, Equation}
-use Rattle.net_lang.specs.Rules.{span, let_spans}
-use Rattle.net_lang.specs.Value.{time_at, value, let_values}
-use Rattle.spike_eval.specs.Early.{IsAtMost, AreEarly}
+use Rattle.net_model.specs.Formula.{Formula, Never, Input, Named, Min, Max, Lt, Inc, Equation}
+use Rattle.net_model.specs.Rules.{span, let_spans}
+use Rattle.net_model.specs.Value.{time_at, value, let_values}
+use Rattle.net_model.specs.Early.{IsAtMost, AreEarly}
 use Rattle.spike_eval.specs.Room.{FormulaHasRoom}
 
 -- the latest time of an input

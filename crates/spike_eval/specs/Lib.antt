@@ -1,4 +1,3 @@
-pub mod Early
 pub mod Room
 pub mod Causal
 pub mod Outputs

@@ -1,7 +1,7 @@
 //! Laws of networks as functions of the times of their inputs.
 ghost use Rattle.std.specs.Prelude.{ℕ, List};
 ghost use Rattle.rl_time.specs.declared.time.Time.{Time};
-ghost use Rattle.net_lang.specs.Formula.{Net};
+ghost use Rattle.net_model.specs.Formula.{Net};
 ghost use Rattle.spike_eval.specs.Causal.{IsCausal, IsInvariant, AreEqualOnNumbers, AreEqualOnTimes};
 ghost use Rattle.spike_eval.specs.Outputs.{output_function};
 

@@ -2,8 +2,8 @@
 use Rattle.std.proofs.Common.{◌≡◌, ℕ, ◌<◌, ◌≤◌, ◌+◌, refl, ap, subst, arith, sym, ◌∙◌, Bool, true, false, length, List, [], ◌∷◌, ◌++◌, map, append_assoc, ◌↔◌}
 use Rattle.std.specs.List.{All, AllByRecursion, slice_index_or, list_all}
 use Rattle.std.proofs.lemmas.List.Sums.{sum_by-append}
-use Rattle.net_lang.specs.Formula.{Equation, Net, net}
-use Rattle.net_lang.specs.Rules.{is_let_name, are_distinct, names_of, joins, delays, IsNetwork, IsOver, is_port_name}
+use Rattle.net_model.specs.Formula.{Equation, Net, net}
+use Rattle.net_model.specs.Rules.{is_let_name, are_distinct, names_of, joins, delays, IsNetwork, IsOver, is_port_name}
 use Rattle.term_store.specs.declared.node.Term.{Term}
 use Rattle.term_store.specs.declared.node.Node.{Node}
 use Rattle.term_store.specs.Tree.{Tree, Input, span}

@@ -6,9 +6,9 @@ use Rattle.std.proofs.lemmas.List.Elements.{filter-append}
 use Rattle.std.proofs.lemmas.List.Sums.{sum_by-cons, sum_by-append}
 use Rattle.std.proofs.lemmas.Map.Made.{length-le_from_is_member}
 use Rattle.std.proofs.lemmas.Map.Views.{any-filter_same}
-use Rattle.net_lang.specs.Formula.{Formula, Equation, Net}
-use Rattle.net_lang.specs.Formula as formula
-use Rattle.net_lang.specs.Rules.{joins, delays, IsOver, AreLets, IsNetwork}
+use Rattle.net_model.specs.Formula.{Formula, Equation, Net}
+use Rattle.net_model.specs.Formula as formula
+use Rattle.net_model.specs.Rules.{joins, delays, IsOver, AreLets, IsNetwork}
 use Rattle.term_store.specs.Tree.{Tree, Never, Input, Min, Max, Lt, Inc}
 use Rattle.term_store.specs.Terms.{tree_in, delayed, tree_over, let_trees, network_trees}
 use Rattle.term_store.specs.Subterms.{all_subterms, same_tree, is_among, distinct, distinct_subterms, is_join, is_delay, join_count, delay_count, IsInputBelow, AreNetworkTerms}

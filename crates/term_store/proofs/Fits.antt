@@ -2,13 +2,13 @@
 use Rattle.std.proofs.Common.{◌≡◌, ℕ, suc, ◌<◌, ◌≤◌, ◌+◌, true, subst, arith, sym, length, List, [], ◌∷◌, ◌++◌, fold, map}
 use Rattle.std.specs.List.{AllByRecursion, sum_by}
 use Rattle.std.proofs.lemmas.List.Sums.{sum_by-cons, sum_by-append}
-use Rattle.net_lang.specs.Formula.{Formula, Never, Input, Named, Min, Max, Lt, Inc, Equation, Net}
-use Rattle.net_lang.specs.Rules.{joins, delays, span, let_spans, IsOver, AreLets, IsNetwork}
+use Rattle.net_model.specs.Formula.{Formula, Never, Input, Named, Min, Max, Lt, Inc, Equation, Net}
+use Rattle.net_model.specs.Rules.{joins, delays, span, let_spans, IsOver, AreLets, IsNetwork}
 use Rattle.term_store.specs.declared.node.Node.{Node}
 use Rattle.term_store.specs.declared.node.Node.TheVariants as node
 use Rattle.term_store.specs.Nodes.{Contents, holds}
 use Rattle.term_store.specs.Trees.{IsPrefix}
-use Rattle.term_store.specs.Planting.{operators, all_operators, HasRoom, TakesRoom, IsReady, AreReadyLets, AreReadyOutputs}
+use Rattle.term_store.specs.Planting.{operators, all_operators, HasRoomBesideNever, TakesRoomBesideNever, IsReady, AreReadyLets, AreReadyOutputs}
 use Rattle.term_store.proofs.Room.{cost_small}
 use Rattle.term_store.proofs.Ready.{ready_more}
 
@@ -87,16 +87,16 @@ few_operators n rules =
     )
 
 -- the room for a whole network is there
-pub room_at_first : (s : Contents) (n : Net) → IsNetwork n → length s.nodes ≤ 196608 → 32833 ≤ s.spare → HasRoom s (length n.inputs + (all_operators n.lets + all_operators n.outputs))
+pub room_at_first : (s : Contents) (n : Net) → IsNetwork n → length s.nodes ≤ 196608 → 32833 ≤ s.spare → HasRoomBesideNever s (length n.inputs + (all_operators n.lets + all_operators n.outputs))
 room_at_first s n rules few spare = record {
   places = omega (arith, rules.few_inputs, few_operators n rules, few, cost_small s.nodes node.Never);
   memory = omega (arith, rules.few_inputs, few_operators n rules, spare, cost_small s.nodes node.Never);
 }
 
 -- less room is there too
-pub room_less : (s : Contents) (j k : ℕ) → j ≤ k → HasRoom s k → HasRoom s j
+pub room_less : (s : Contents) (j k : ℕ) → j ≤ k → HasRoomBesideNever s k → HasRoomBesideNever s j
 room_less s j k h r = record { places = omega (arith, h, r.places); memory = omega (arith, h, r.memory) }
 
 -- all that a network takes
-pub few_added : (a b : Contents) (n : Net) (i j k : ℕ) → IsNetwork n → i ≤ length n.inputs → j ≡ all_operators n.lets → k ≡ all_operators n.outputs → TakesRoom a b (i + j + k) → length b.nodes ≤ length a.nodes + 32833
+pub few_added : (a b : Contents) (n : Net) (i j k : ℕ) → IsNetwork n → i ≤ length n.inputs → j ≡ all_operators n.lets → k ≡ all_operators n.outputs → TakesRoomBesideNever a b (i + j + k) → length b.nodes ≤ length a.nodes + 32833
 few_added a b n i j k rules hi hj hk t = omega (arith, rules.few_inputs, few_operators n rules, hi, hj, hk, t.places, cost_small a.nodes node.Never)

@@ -7,8 +7,8 @@ use Rattle.std.proofs.lemmas.List.Elements.{filter-append}
 use Rattle.std.proofs.lemmas.List.Sums.{sum_by-cons, sum_by-append}
 use Rattle.std.proofs.lemmas.Map.Keys.{IsDistinct-push}
 use Rattle.std.proofs.lemmas.Map.Made.{length-from_same_keys}
-use Rattle.net_lang.specs.Formula.{Equation}
-use Rattle.net_lang.specs.Rules.{joins, delays}
+use Rattle.net_model.specs.Formula.{Equation}
+use Rattle.net_model.specs.Rules.{joins, delays}
 use Rattle.term_store.specs.declared.node.Term.{Term}
 use Rattle.term_store.specs.declared.node.Node.{Node}
 use Rattle.term_store.specs.declared.node.Node.TheVariants as node

@@ -9,8 +9,8 @@ use Rattle.std.proofs.lemmas.List.Folds.{list_all-append, list_any-append}
 use Rattle.std.proofs.lemmas.Slice.Eq.{bytes_eq-Decides}
 use Rattle.std.proofs.lemmas.Fmt.{decimal_injective, decimal_by_steps, length-decimal-le}
 use Rattle.rl_text.specs.Names.{is_name_byte, is_name, is_digit}
-use Rattle.net_lang.specs.Formula.{Equation}
-use Rattle.net_lang.specs.Rules.{is_reserved, is_let_name, is_port_name, begins_with_underscore, are_distinct, names_of}
+use Rattle.net_model.specs.Formula.{Equation}
+use Rattle.net_model.specs.Rules.{is_reserved, is_let_name, is_port_name, begins_with_underscore, are_distinct, names_of}
 use Rattle.term_store.specs.declared.node.Node.{Node}
 use Rattle.term_store.specs.Extracted.{becomes_let, let_places, let_number, let_name, let_at, lets_below}
 use Rattle.term_store.proofs.Lets.{places_yes, places_no, lets_yes, lets_no}

@@ -2,8 +2,8 @@
 use Rattle.std.proofs.Common.{◌≡◌, ℕ, zero, suc, ◌<◌, ◌≤◌, ◌+◌, refl, ap, subst, arith, sym, ◌∙◌, Bool, true, false, true≢false, length, List, [], ◌∷◌, ◌++◌, map, inl, inr}
 use Rattle.std.specs.List.{All, AllByRecursion, slice_index_or}
 use Rattle.std.proofs.lemmas.List.{map-append}
-use Rattle.net_lang.specs.Formula.{Equation}
-use Rattle.net_lang.specs.Rules.{IsOver, AreLets, nesting, let_spans}
+use Rattle.net_model.specs.Formula.{Equation}
+use Rattle.net_model.specs.Rules.{IsOver, AreLets, nesting, let_spans}
 use Rattle.term_store.specs.declared.node.Term.{Term}
 use Rattle.term_store.specs.declared.node.Node.{Node}
 use Rattle.term_store.specs.declared.node.Node.TheVariants as node

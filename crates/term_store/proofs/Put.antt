@@ -12,7 +12,7 @@ use Rattle.term_store.specs.declared.node.Node.TheVariants as node
 use Rattle.term_store.specs.Nodes.{node_at, same_node, place_of, with_node, IsNodeOver, IsNodes}
 use Rattle.term_store.specs.Trees.{node_tree, trees, tree, place, node_of, plant_one, term, IsHeld, IsPrefix, trees_at}
 use Rattle.term_store.specs.Planting.{cost, IsPlanted, IsPairPlanted}
-use Rattle.net_lang.specs.Formula.{Formula}
+use Rattle.net_model.specs.Formula.{Formula}
 use Rattle.term_store.proofs.Same.{one_term, same_is}
 use Rattle.term_store.proofs.Push.{with_held, held_at}
 use Rattle.term_store.proofs.TreeLaws.{tree_prefix, over_agree}

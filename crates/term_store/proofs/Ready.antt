@@ -1,6 +1,6 @@
 -- Formulas that are ready to be planted.
 use Rattle.std.proofs.Common.{◌≡◌, ℕ, true, ap, ◌∙◌, List}
-use Rattle.net_lang.specs.Formula.{Formula, Never, Input, Named, Min, Max, Lt, Inc}
+use Rattle.net_model.specs.Formula.{Formula, Never, Input, Named, Min, Max, Lt, Inc}
 use Rattle.term_store.specs.declared.node.Node.{Node}
 use Rattle.term_store.specs.declared.node.Node.TheVariants as node
 use Rattle.term_store.specs.Nodes.{holds}

@@ -5,7 +5,7 @@ use Rattle.std.proofs.lemmas.List.Folds.{list_any-append}
 use Rattle.term_store.specs.declared.node.Node.{Node}
 use Rattle.term_store.specs.declared.node.Node.TheVariants as node
 use Rattle.term_store.specs.Nodes.{Contents, same_node, holds, with_node, IsNodes}
-use Rattle.term_store.specs.Planting.{cost, HasRoom, TakesRoom}
+use Rattle.term_store.specs.Planting.{cost, HasRoomBesideNever, TakesRoomBesideNever}
 use Rattle.term_store.proofs.Same.{same_refl}
 use Rattle.term_store.proofs.Push.{with_new, with_held}
 
@@ -65,11 +65,11 @@ cost_with ns m n = go (holds ns n) refl
     go true e = omega (arith, cost_held _ n (holds_with ns m n e))
     go false e = omega (arith, cost_new ns n e, cost_small (with_node ns m) n)
 
-pub no_room : (s : Contents) → TakesRoom s s 0
+pub no_room : (s : Contents) → TakesRoomBesideNever s s 0
 no_room s = record { places = omega arith; memory = omega arith }
 
 -- one node came
-pub room_one : (old new : Contents) (n : Node) → new.nodes ≡ with_node old.nodes n → old.spare ≤ new.spare + cost old.nodes n → TakesRoom old new 1
+pub room_one : (old new : Contents) (n : Node) → new.nodes ≡ with_node old.nodes n → old.spare ≤ new.spare + cost old.nodes n → TakesRoomBesideNever old new 1
 room_one old new n e h = let one = cost_small old.nodes n in
     let less = cost_with old.nodes n node.Never in
     let c : cost new.nodes node.Never ≡ cost (with_node old.nodes n) node.Never = ap (λ ns. cost ns node.Never) e in
@@ -79,19 +79,19 @@ room_one old new n e h = let one = cost_small old.nodes n in
     }
 
 -- one after the other
-pub room_then : (a b c : Contents) (j k : ℕ) → TakesRoom a b j → TakesRoom b c k → TakesRoom a c (j + k)
+pub room_then : (a b c : Contents) (j k : ℕ) → TakesRoomBesideNever a b j → TakesRoomBesideNever b c k → TakesRoomBesideNever a c (j + k)
 room_then a b c j k p q = record { places = omega (arith, p.places, q.places); memory = omega (arith, p.memory, q.memory) }
 
 -- what is left
-pub room_after : (a b : Contents) (j k m : ℕ) → j + k ≤ m → HasRoom a m → TakesRoom a b j → HasRoom b k
+pub room_after : (a b : Contents) (j k m : ℕ) → j + k ≤ m → HasRoomBesideNever a m → TakesRoomBesideNever a b j → HasRoomBesideNever b k
 room_after a b j k m le r t = record { places = omega (arith, le, r.places, t.places); memory = omega (arith, le, r.memory, t.memory) }
 
 -- what a node takes is there
-pub place_for : (s : Contents) (n : Node) (k : ℕ) → 1 ≤ k → HasRoom s k → length s.nodes + cost s.nodes n ≤ 262144
+pub place_for : (s : Contents) (n : Node) (k : ℕ) → 1 ≤ k → HasRoomBesideNever s k → length s.nodes + cost s.nodes n ≤ 262144
 place_for s n k h r = omega (arith, h, r.places, cost_small s.nodes n)
 
 pub place_held : (ns : List Node) (n : Node) → IsNodes ns → holds ns n ≡ true → length ns + cost ns n ≤ 262144
 place_held ns n s e = omega (arith, cost_held ns n e, s.few)
 
-pub memory_for : (s : Contents) (n : Node) (k : ℕ) → 1 ≤ k → HasRoom s k → cost s.nodes n ≤ s.spare
+pub memory_for : (s : Contents) (n : Node) (k : ℕ) → 1 ≤ k → HasRoomBesideNever s k → cost s.nodes n ≤ s.spare
 memory_for s n k h r = omega (arith, h, r.memory, cost_small s.nodes n)

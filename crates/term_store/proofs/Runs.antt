@@ -5,7 +5,7 @@ use Rattle.std.proofs.lemmas.Grind.{common_steps}
 use Rattle.std.proofs.lemmas.Bool.{cases_lt}
 use Rattle.std.proofs.lemmas.List.{take_more, map-append}
 use Rattle.std.proofs.lemmas.List.Sums.{fold_more, fold-append, sum_by_more, sum_by-take-le}
-use Rattle.net_lang.specs.Formula.{Formula, Equation}
+use Rattle.net_model.specs.Formula.{Formula, Equation}
 use Rattle.term_store.specs.declared.node.Term.{Term}
 use Rattle.term_store.specs.declared.node.Node.{Node}
 use Rattle.term_store.specs.declared.node.Node.TheVariants as node
@@ -13,7 +13,7 @@ use Rattle.term_store.specs.Tree.{Tree, Input}
 use Rattle.term_store.specs.Terms.{tree_over, let_trees, input_trees}
 use Rattle.term_store.specs.Nodes.{Contents, IsNodes, with_node, node_at, holds}
 use Rattle.term_store.specs.Trees.{tree, plant_one, plant, IsPrefix, trees_at}
-use Rattle.term_store.specs.Planting.{cost, operators, all_operators, HasRoom, TakesRoom, IsReady, AreReadyLets, AreReadyOutputs, IsPlanted, ArePlanted}
+use Rattle.term_store.specs.Planting.{cost, operators, all_operators, HasRoomBesideNever, TakesRoomBesideNever, IsReady, AreReadyLets, AreReadyOutputs, IsPlanted, ArePlanted}
 use Rattle.term_store.proofs.Put.{put_leaf, within_more, same_trees, prefix_then}
 use Rattle.term_store.proofs.Room.{room_after, room_then, holds_it, holds_with}
 use Rattle.term_store.proofs.Ready.{ready_more}
@@ -43,20 +43,20 @@ pub operators_more : (bs : List Equation) (i : ℕ) (d : Equation) → i < lengt
 operators_more bs i d h = sum_by_more (λ b. operators b.body) bs i d h
 
 -- what is left for the body at a place
-pub room_for_body : (old mid : Contents) (bs : List Equation) (i : ℕ) (d : Equation) (f : Formula) → i < length bs → d ≡ slice_index_or bs i d → f ≡ d.body → HasRoom old (all_operators bs) → TakesRoom old mid (all_operators (take i bs))
-    → HasRoom mid (operators f)
+pub room_for_body : (old mid : Contents) (bs : List Equation) (i : ℕ) (d : Equation) (f : Formula) → i < length bs → d ≡ slice_index_or bs i d → f ≡ d.body → HasRoomBesideNever old (all_operators bs) → TakesRoomBesideNever old mid (all_operators (take i bs))
+    → HasRoomBesideNever mid (operators f)
 room_for_body old mid bs i d f h at e room takes =
     let more = operators_more bs i d h in
     let o : operators f ≡ operators (slice_index_or bs i d).body = ap operators e ∙ ap (λ (b : Equation). operators b.body) at in
     room_after old mid (all_operators (take i bs)) (operators f) (all_operators bs) (omega (arith, more, o, sum_by-take-le (λ b. operators b.body) bs (i + 1))) room takes
 
 -- one body more was planted
-pub room_body : (old mid new : Contents) (bs : List Equation) (i : ℕ) (d : Equation) (f : Formula) → i < length bs → d ≡ slice_index_or bs i d → f ≡ d.body → TakesRoom old mid (all_operators (take i bs)) → TakesRoom mid new (operators f)
-    → TakesRoom old new (all_operators (take (i + 1) bs))
+pub room_body : (old mid new : Contents) (bs : List Equation) (i : ℕ) (d : Equation) (f : Formula) → i < length bs → d ≡ slice_index_or bs i d → f ≡ d.body → TakesRoomBesideNever old mid (all_operators (take i bs)) → TakesRoomBesideNever mid new (operators f)
+    → TakesRoomBesideNever old new (all_operators (take (i + 1) bs))
 room_body old mid new bs i d f h at e p q =
     let o : operators f ≡ operators (slice_index_or bs i d).body = ap operators e ∙ ap (λ (b : Equation). operators b.body) at in
     let count : all_operators (take i bs) + operators f ≡ all_operators (take (i + 1) bs) = omega (arith, operators_more bs i d h, o) in
-    subst (TakesRoom old new) count (room_then old mid new (all_operators (take i bs)) (operators f) p q)
+    subst (TakesRoomBesideNever old new) count (room_then old mid new (all_operators (take i bs)) (operators f) p q)
 
 ready_from : (ns : List Node) (k : ℕ) (bs : List Equation) (i : ℕ) (d : Equation) → AreReadyLets ns k bs → i < length bs → IsReady ns (k + i) (slice_index_or bs i d).body
 ready_from ns k [] i d r h = absurd (omega arith)

@@ -6,12 +6,12 @@ use Rattle.std.proofs.lemmas.List.{map-append}
 use Rattle.rl_time.specs.declared.time.Time.{Time}
 use Rattle.rl_time.specs.declared.time.Time.TheVariants as time
 use Rattle.rl_time.specs.Time.{time_min, time_max, time_lt, time_inc}
-use Rattle.net_lang.specs.Formula.{Formula, Equation, Net}
-use Rattle.net_lang.specs.Formula as formula
-use Rattle.net_lang.specs.Value.{time_at, let_values, space_time_function}
-use Rattle.net_lang.specs.Value as net
-use Rattle.net_lang.specs.Rules.{let_spans, output_spans}
-use Rattle.net_lang.specs.Rules as rules
+use Rattle.net_model.specs.Formula.{Formula, Equation, Net}
+use Rattle.net_model.specs.Formula as formula
+use Rattle.net_model.specs.Value.{time_at, let_values, space_time_function}
+use Rattle.net_model.specs.Value as net
+use Rattle.net_model.specs.Rules.{let_spans, output_spans}
+use Rattle.net_model.specs.Rules as rules
 use Rattle.term_store.specs.Tree.{Tree, Inc, value, span}
 use Rattle.term_store.specs.Terms.{tree_in, delayed, tree_over, let_trees, network_trees}
 

@@ -1,7 +1,7 @@
 -- The network that the roots of a store write out: each operator that they reach is a let.
 use Rattle.std.specs.Prelude.{ℕ, zero, suc, Bool, true, false, ◌&&◌, if◌then◌else◌, List, [], ◌∷◌, ◌++◌, length, map, codes, decimal}
-use Rattle.net_lang.specs.Formula.{Formula, Equation, Net, net}
-use Rattle.net_lang.specs.Formula as formula
+use Rattle.net_model.specs.Formula.{Formula, Equation, Net, net}
+use Rattle.net_model.specs.Formula as formula
 use Rattle.term_store.specs.declared.node.Term.{Term}
 use Rattle.term_store.specs.declared.node.Node.{Node}
 use Rattle.term_store.specs.declared.node.Node.TheVariants.{Input, Never, Min, Max, Lt, Inc}

@@ -1,7 +1,7 @@
 -- What the steps of writing a network out keep.
 use Rattle.std.specs.Prelude.{ℕ, zero, suc, Bool, false, ◌&&◌, if◌then◌else◌, List, [], ◌∷◌, ◌++◌, length}
 use Rattle.std.specs.List.{slice_index_or}
-use Rattle.net_lang.specs.Formula.{Equation}
+use Rattle.net_model.specs.Formula.{Equation}
 use Rattle.term_store.specs.declared.node.Node.{Node}
 use Rattle.term_store.specs.Nodes.{node_at}
 use Rattle.term_store.specs.Extracted.{is_operator, let_number, let_name, let_body, equation}

@@ -1,8 +1,8 @@
 -- What holds of the terms of networks, and of the places of a store.
 use Rattle.std.specs.Prelude.{◌≡◌, ℕ, ◌<◌, List, length, map}
 use Rattle.rl_time.specs.declared.time.Time.{Time}
-use Rattle.net_lang.specs.Formula.{Net}
-use Rattle.net_lang.specs.Value.{space_time_function}
+use Rattle.net_model.specs.Formula.{Net}
+use Rattle.net_model.specs.Value.{space_time_function}
 use Rattle.term_store.specs.declared.node.Node.{Node}
 use Rattle.term_store.specs.Tree.{value}
 use Rattle.term_store.specs.Terms.{network_trees}

@@ -10,3 +10,4 @@ pub mod Extracting
 pub mod Laws
 pub mod Ports
 pub mod Places
+pub mod Room

@@ -1,9 +1,9 @@
 -- What planting terms in a store takes and leaves.
 use Rattle.std.specs.Prelude.{◌≡◌, ℕ, suc, ◌<◌, ◌≤◌, ◌+◌, true, if◌then◌else◌, List, [], ◌∷◌, length}
 use Rattle.std.specs.List.{All, AllByRecursion, sum_by}
-use Rattle.net_lang.specs.Formula.{Formula, Equation}
-use Rattle.net_lang.specs.Formula as formula
-use Rattle.net_lang.specs.Rules.{joins, delays}
+use Rattle.net_model.specs.Formula.{Formula, Equation}
+use Rattle.net_model.specs.Formula as formula
+use Rattle.net_model.specs.Rules.{joins, delays}
 use Rattle.term_store.specs.declared.node.Term.{Term}
 use Rattle.term_store.specs.declared.node.Node.{Node}
 use Rattle.term_store.specs.declared.node.Node.TheVariants as node
@@ -42,13 +42,13 @@ operators f = joins f + delays f
 abbrev pub all_operators : List Equation → ℕ
 all_operators equations = sum_by (λ e. operators e.body) equations
 
--- the store has room for k nodes more, and for never
-pub record HasRoom (store : Contents) (k : ℕ) : Type 0 where
+-- the store has room for k nodes more, and for never beside them
+pub record HasRoomBesideNever (store : Contents) (k : ℕ) : Type 0 where
   pub places : length store.nodes + cost store.nodes node.Never + k ≤ 262144
   pub memory : cost store.nodes node.Never + k ≤ store.spare
 
--- at most k nodes came, besides never
-pub record TakesRoom (old new : Contents) (k : ℕ) : Type 0 where
+-- at most k nodes were added, beside never
+pub record TakesRoomBesideNever (old new : Contents) (k : ℕ) : Type 0 where
   pub places : length new.nodes + cost new.nodes node.Never ≤ length old.nodes + cost old.nodes node.Never + k
   pub memory : old.spare + cost new.nodes node.Never ≤ new.spare + cost old.nodes node.Never + k
 

@@ -1,7 +1,7 @@
 -- The names that the inputs and outputs of a network may have.
 use Rattle.std.specs.Prelude.{ℕ, ◌≤◌, IsTrue, List, ◌++◌, length}
 use Rattle.std.specs.List.{list_all}
-use Rattle.net_lang.specs.Rules.{is_port_name, are_distinct}
+use Rattle.net_model.specs.Rules.{is_port_name, are_distinct}
 
 -- 1 to 64 inputs and 1 to 64 outputs, each named as a network may name it, and no two alike
 pub record ArePorts (inputs outputs : List (List ℕ)) : Type 0 where

@@ -1,7 +1,7 @@
 -- The terms of a network: its lets and outputs, written out.
 use Rattle.std.specs.Prelude.{ℕ, zero, suc, List, [], ◌∷◌, ◌++◌, fold, map, nat_eq, if◌then◌else◌, slice_index_or}
-use Rattle.net_lang.specs.Formula.{Formula, Equation, Net}
-use Rattle.net_lang.specs.Formula as formula
+use Rattle.net_model.specs.Formula.{Formula, Equation, Net}
+use Rattle.net_model.specs.Formula as formula
 use Rattle.term_store.specs.Tree.{Tree, Never, Input, Min, Max, Lt, Inc}
 
 -- the tree at a place, and never past the end

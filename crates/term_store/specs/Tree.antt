@@ -3,7 +3,7 @@ use Rattle.std.specs.Prelude.{ℕ, ◌+◌, max, List}
 use Rattle.rl_time.specs.declared.time.Time.{Time}
 use Rattle.rl_time.specs.declared.time.Time.TheVariants as time
 use Rattle.rl_time.specs.Time.{time_min, time_max, time_lt, time_inc}
-use Rattle.net_lang.specs.Value.{time_at}
+use Rattle.net_model.specs.Value.{time_at}
 
 -- operators over inputs, each named by its place
 pub data Tree : Type 0 where

@@ -1,15 +1,15 @@
 //! Networks in a store.
 ghost use Rattle.std.specs.Prelude.{◌≡◌, ℕ, ◌+◌, ◌<◌, ◌≤◌, [], true, length, map, IfOk, OnOk, OnErr, vec_len, vec_capacity};
 ghost use Rattle.std.specs.List.{All};
-ghost use Rattle.net_lang.specs.View.{formula};
+ghost use Rattle.net_model.specs.View.{formula};
 ghost use Rattle.term_store.specs.Terms.{tree_over, let_trees, network_trees, input_trees};
 ghost use Rattle.term_store.specs.Nodes.{holds, IsNodes};
 ghost use Rattle.term_store.specs.Trees.{trees_at, plant, IsPrefix};
-ghost use Rattle.term_store.specs.Planting.{cost, operators, all_operators, HasRoom, TakesRoom, IsReady, AreReadyLets, AreReadyOutputs, IsPlanted, IsPairPlanted, ArePlanted};
+ghost use Rattle.term_store.specs.Planting.{cost, operators, all_operators, HasRoomBesideNever, TakesRoomBesideNever, IsReady, AreReadyLets, AreReadyOutputs, IsPlanted, IsPairPlanted, ArePlanted};
 
 use crate::node::{Node, Term};
 use crate::store::Store;
-use net_lang::{Binding, Expr, Network};
+use net_model::{Binding, Expr, Network};
 use rl_time::NoMemory;
 use std::alloc::Global;
 
@@ -44,12 +44,12 @@ impl Store {
 fn put_inputs(store: &mut Store, count: u32)
     requires nodes { IsNodes store.old.nodes }
     requires count { count ≤ 64 }
-    requires room { HasRoom store.old count }
+    requires room { HasRoomBesideNever store.old count }
     ensures nodes { store.new.nodes ≡ plant store.old.nodes (input_trees count) }
     ensures is_nodes { IsNodes store.new.nodes }
     ensures grown { IsPrefix store.old.nodes store.new.nodes }
     ensures held { (i : ℕ) → i < count → holds store.new.nodes (Node.Input i) ≡ true }
-    ensures room { TakesRoom store.old store.new count }
+    ensures room { TakesRoomBesideNever store.old store.new count }
 {
     for input in 0..count {
         let _place = store.keep(Node::Input(input));
@@ -62,10 +62,10 @@ fn put_lets(store: &mut Store, lets: &mut Vec<Term>, bindings: &[Binding])
     requires empty { lets.old.items ≡ [] }
     requires capacity { length bindings.now ≤ vec_capacity lets.old }
     requires ready { AreReadyLets store.old.nodes 0 bindings.now }
-    requires room { HasRoom store.old (all_operators bindings.now) }
+    requires room { HasRoomBesideNever store.old (all_operators bindings.now) }
     ensures planted { ArePlanted store.old.nodes store.new.nodes (let_trees bindings.now) lets.new.items }
     ensures len { vec_len lets.new ≡ length bindings.now }
-    ensures room { TakesRoom store.old store.new (all_operators bindings.now) }
+    ensures room { TakesRoomBesideNever store.old store.new (all_operators bindings.now) }
 {
     for binding in bindings {
         let place = put(store, lets, binding.body());
@@ -82,9 +82,9 @@ fn put_outputs(store: &mut Store, lets: &[Term], places: &mut Vec<Term>, binding
     requires empty { places.old.items ≡ [] }
     requires capacity { length bindings.now ≤ vec_capacity places.old }
     requires ready { AreReadyOutputs store.old.nodes (length lets.now) bindings.now }
-    requires room { HasRoom store.old (all_operators bindings.now) }
+    requires room { HasRoomBesideNever store.old (all_operators bindings.now) }
     ensures planted { ArePlanted store.old.nodes store.new.nodes (map (λ e. tree_over (trees_at store.old.nodes lets.now) e.body) bindings.now) places.new.items }
-    ensures room { TakesRoom store.old store.new (all_operators bindings.now) }
+    ensures room { TakesRoomBesideNever store.old store.new (all_operators bindings.now) }
 {
     for binding in bindings {
         let place = put(store, lets, binding.body());
@@ -100,9 +100,9 @@ fn put_pair(store: &mut Store, lets: &[Term], a: &Expr, b: &Expr) -> (Term, Term
     requires nodes { IsNodes store.old.nodes }
     requires lets { All (λ t. t.0 < length store.old.nodes) lets.now }
     requires ready { IsReady store.old.nodes (length lets.now) (formula a.now) × IsReady store.old.nodes (length lets.now) (formula b.now) }
-    requires room { HasRoom store.old (operators (formula a.now) + operators (formula b.now)) }
+    requires room { HasRoomBesideNever store.old (operators (formula a.now) + operators (formula b.now)) }
     ensures planted { IsPairPlanted store.old.nodes store.new.nodes (tree_over (trees_at store.old.nodes lets.now) (formula a.now)) (tree_over (trees_at store.old.nodes lets.now) (formula b.now)) result.0 result.1 }
-    ensures room { TakesRoom store.old store.new (operators (formula a.now) + operators (formula b.now)) }
+    ensures room { TakesRoomBesideNever store.old store.new (operators (formula a.now) + operators (formula b.now)) }
 {
     let first = put(store, lets, a);
     let second = put(store, lets, b);
@@ -115,9 +115,9 @@ fn put(store: &mut Store, lets: &[Term], body: &Expr) -> Term
     requires nodes { IsNodes store.old.nodes }
     requires lets { All (λ t. t.0 < length store.old.nodes) lets.now }
     requires ready { IsReady store.old.nodes (length lets.now) (formula body.now) }
-    requires room { HasRoom store.old (operators (formula body.now)) }
+    requires room { HasRoomBesideNever store.old (operators (formula body.now)) }
     ensures planted { IsPlanted store.old.nodes store.new.nodes (tree_over (trees_at store.old.nodes lets.now) (formula body.now)) result }
-    ensures room { TakesRoom store.old store.new (operators (formula body.now)) }
+    ensures room { TakesRoomBesideNever store.old store.new (operators (formula body.now)) }
 {
     match body {
         Expr::Never => store.keep(Node::Never),

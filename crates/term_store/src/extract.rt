@@ -1,8 +1,8 @@
 //! A network from a store.
 ghost use Rattle.std.specs.Prelude.{◌≡◌, ◌+◌, ◌<◌, ◌≤◌, ◌^◌, length, map, IfOk, OnOk};
 ghost use Rattle.std.specs.List.{All};
-ghost use Rattle.net_lang.specs.Rules.{names_of};
-ghost use Rattle.net_lang.specs.View.{formula};
+ghost use Rattle.net_model.specs.Rules.{names_of};
+ghost use Rattle.net_model.specs.View.{formula};
 ghost use Rattle.term_store.specs.Terms.{network_trees};
 ghost use Rattle.term_store.specs.Subterms.{AreNetworkTerms, join_count, delay_count};
 ghost use Rattle.term_store.specs.Nodes.{IsNodes, IsNodeOver};
@@ -15,8 +15,8 @@ ghost use Rattle.term_store.specs.Extracting.{marked, numbered, let_numbers, wit
 use crate::node::{Node, Term};
 use crate::reach::reached;
 use crate::store::Store;
-use itoa::Buffer;
-use net_lang::{Binding, Expr, Name, Network};
+use net_model::{Binding, Expr, Name, Network};
+use rl_text::{copy_names, numbered_name};
 use rl_time::NoMemory;
 use std::alloc::Global;
 
@@ -49,17 +49,6 @@ impl Store {
         let names = copy_names(alloc, inputs)?;
         Ok(Network::new(names, lets, bindings))
     }
-}
-
-/// A copy of each name, in order.
-fn copy_names(alloc: Global, names: &[Name]) -> Result<Vec<Name>, NoMemory>
-    ensures copies { IfOk result (λ copies. copies.items ≡ names.now) }
-{
-    let mut copies = Vec::new(alloc);
-    for name in names {
-        copies.push(Name::new(alloc, name.bytes())?)?;
-    }
-    Ok(copies)
 }
 
 /// The let of each marked operator, in order, and for each place how many lets stand before its.
@@ -120,10 +109,7 @@ fn is_operator(node: Node) -> bool
 fn let_name(alloc: Global, number: u32) -> Result<Name, NoMemory>
     ensures name { IfOk result (λ name. name ≡ extracted.let_name number) }
 {
-    let mut buffer = Buffer::new();
-    let mut bytes = Vec::from_slice(alloc, b"_")?;
-    bytes.extend_from_slice(buffer.format(number).as_bytes())?;
-    Name::new(alloc, &bytes)
+    numbered_name(alloc, b"_", number)
 }
 
 /// A node's expression over the lets of these numbers.

@@ -1,8 +1,8 @@
 //! Laws of the terms of networks, and of the places of a store.
 ghost use Rattle.std.specs.Prelude.{◌≡◌, ◌<◌, ◌≤◌, ◌+◌, ◌*◌, ℕ, List, length};
 ghost use Rattle.std.specs.List.{All, AllByRecursion};
-ghost use Rattle.net_lang.specs.Formula.{Net};
-ghost use Rattle.net_lang.specs.Rules.{IsNetwork, names_of};
+ghost use Rattle.net_model.specs.Formula.{Net};
+ghost use Rattle.net_model.specs.Rules.{IsNetwork, names_of};
 ghost use Rattle.term_store.specs.declared.node.Term.{Term};
 ghost use Rattle.term_store.specs.declared.node.Node.{Node};
 ghost use Rattle.term_store.specs.Terms.{network_trees};

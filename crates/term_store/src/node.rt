@@ -1,4 +1,5 @@
 //! The nodes of a store.
+use std::fmt;
 
 /// A place in a store, from 0.
 #[derive(Clone, Copy, Debug, PartialEq, Eq, Hash)]
@@ -21,4 +22,13 @@ pub enum Node {
 pub enum StoreError {
     Full,
     NoMemory,
+}
+
+impl fmt::Display for StoreError {
+    fn fmt<W: fmt::Write>(&self, f: &mut fmt::Formatter<W>) -> fmt::Result {
+        f.write_str(match self {
+            StoreError::Full => "the store is full",
+            StoreError::NoMemory => "out of memory",
+        })
+    }
 }

@@ -4,8 +4,11 @@ ghost use Rattle.net_lang.specs.FormReading.{is_name, name_at, names_at, binding
 ghost use Rattle.net_lang.specs.Written.{expression, Gives};
 ghost use Rattle.net_lang.specs.FormView.{form};
 
-use super::reading::{ReadError, after_sign, expr};
+use super::reading::{after_sign, expr};
+use super::rules::{Rule, Target};
 use super::written::Written;
+use line_lang::LineError;
+use net_model::MOST_NESTING;
 use rl_text::{Kind, Word};
 use std::alloc::Global;
 
@@ -14,22 +17,21 @@ use std::alloc::Global;
 pub enum Form<'a> {
     Header,
     Inputs(Vec<&'a [u8]>),
-    Let(&'a [u8], Written<'a>),
-    Output(&'a [u8], Written<'a>),
+    Define(Target, &'a [u8], Written<'a>),
 }
 
 #[tactic(auto, unfolding(crate::specs::FormReading::name_at))]
-fn name_at<'t, 'a>(ws: &'t [Word<'a>]) -> Result<(&'a [u8], &'t [Word<'a>]), ReadError>
+fn name_at<'t, 'a>(ws: &'t [Word<'a>]) -> Result<(&'a [u8], &'t [Word<'a>]), LineError<Rule>>
     ensures value { Gives (λ x. (x.0.now, words x.1.now)) result (name_at (words ws.now)) }
     ensures shorter { IfOk result (λ x. length x.1.now < length ws.now) }
 {
     match ws {
-        [] => Err(ReadError::Syntax),
+        [] => Err(LineError::Broken(Rule::Syntax)),
         [w, rest @ ..] => {
             if matches!(w.kind, Kind::Name) {
                 Ok((w.bytes, rest))
             } else {
-                Err(ReadError::Syntax)
+                Err(LineError::Broken(Rule::Syntax))
             }
         }
     }
@@ -41,13 +43,13 @@ fn is_name(kind: Kind) -> bool
     matches!(kind, Kind::Name)
 }
 
-fn names_at<'a>(alloc: Global, ws: &[Word<'a>]) -> Result<Vec<&'a [u8]>, ReadError>
+fn names_at<'a>(alloc: Global, ws: &[Word<'a>]) -> Result<Vec<&'a [u8]>, LineError<Rule>>
     ensures { Gives (λ v. map (λ n. n.now) v.items) result (names_at (words ws.now)) }
 {
     let mut names = Vec::new(alloc);
     for w in ws {
         if !is_name(w.kind) {
-            return Err(ReadError::Syntax);
+            return Err(LineError::Broken(Rule::Syntax));
         }
         names.push(w.bytes)?;
     }
@@ -55,15 +57,15 @@ fn names_at<'a>(alloc: Global, ws: &[Word<'a>]) -> Result<Vec<&'a [u8]>, ReadErr
 }
 
 #[tactic(auto, unfolding(crate::specs::FormReading::binding_at))]
-fn binding_at<'a>(alloc: Global, ws: &[Word<'a>]) -> Result<(&'a [u8], Written<'a>), ReadError>
+fn binding_at<'a>(alloc: Global, ws: &[Word<'a>]) -> Result<(&'a [u8], Written<'a>), LineError<Rule>>
     ensures { Gives (λ x. (x.0.now, expression x.1)) result (binding_at (words ws.now)) }
 {
     let (name, rest) = name_at(ws)?;
     let rest = after_sign(rest, b"=")?;
-    let (body, rest) = expr(alloc, rest, 64)?;
+    let (body, rest) = expr(alloc, rest, MOST_NESTING)?;
     match rest {
         [] => Ok((name, body)),
-        [_, ..] => Err(ReadError::Syntax),
+        [_, ..] => Err(LineError::Broken(Rule::Syntax)),
     }
 }
 
@@ -78,36 +80,36 @@ fn is_one(ws: &[Word<'_>]) -> bool
 
 /// The form that the words of a line are.
 #[tactic(auto, unfolding(crate::specs::FormReading::form_at))]
-pub fn form_at<'a>(alloc: Global, ws: &[Word<'a>]) -> Result<Form<'a>, ReadError>
+pub fn form_at<'a>(alloc: Global, ws: &[Word<'a>]) -> Result<Form<'a>, LineError<Rule>>
     ensures { Gives form result (form_at (words ws.now)) }
 {
     let [first, rest @ ..] = ws else {
-        return Err(ReadError::Syntax);
+        return Err(LineError::Broken(Rule::Syntax));
     };
     if !matches!(first.kind, Kind::Name) {
-        return Err(ReadError::Syntax);
+        return Err(LineError::Broken(Rule::Syntax));
     }
     let word = first.bytes;
     if word == b"racenet".as_slice() {
         if is_one(rest) {
             Ok(Form::Header)
         } else {
-            Err(ReadError::Syntax)
+            Err(LineError::Broken(Rule::Syntax))
         }
     } else if word == b"input".as_slice() {
         let names = names_at(alloc, rest)?;
         if names.is_empty() {
-            Err(ReadError::Syntax)
+            Err(LineError::Broken(Rule::Syntax))
         } else {
             Ok(Form::Inputs(names))
         }
     } else if word == b"let".as_slice() {
         let (name, body) = binding_at(alloc, rest)?;
-        Ok(Form::Let(name, body))
+        Ok(Form::Define(Target::Let, name, body))
     } else if word == b"output".as_slice() {
         let (name, body) = binding_at(alloc, rest)?;
-        Ok(Form::Output(name, body))
+        Ok(Form::Define(Target::Output, name, body))
     } else {
-        Err(ReadError::Syntax)
+        Err(LineError::Broken(Rule::Syntax))
     }
 }

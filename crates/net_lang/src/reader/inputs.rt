@@ -4,15 +4,16 @@ ghost use Rattle.net_lang.specs.Forms.{Inputs};
 ghost use Rattle.net_lang.specs.LineRules.{allows};
 ghost use Rattle.net_lang.specs.Draft.{IsDraft, KnowsInputs, Declares, Judges};
 
-use super::draft::{Draft, LineError};
-use super::names::are_port_names;
+use super::draft::Draft;
 use super::rules::{Rule, Stage};
 use super::scope::{Known, Place, Scope};
+use line_lang::LineError;
+use net_model::{MOST_PORTS, are_port_names};
 use rl_text::Name;
 use rl_time::NoMemory;
 use std::alloc::Global;
 
-/// Puts the names behind the inputs, up to the first that is declared already; whether there is none.
+/// Adds the names to the inputs, up to the first that is declared already; whether there is none.
 fn declare<'a>(
     alloc: Global,
     scope: &mut Scope<'a>,
@@ -38,12 +39,12 @@ fn declare<'a>(
     Ok(true)
 }
 
-/// Judges the names that a line declares as inputs, and keeps them where they stand.
+/// Judges the names that a line declares as inputs, and keeps them where they break no rule.
 pub fn read_inputs<'a>(
     alloc: Global,
     draft: &mut Draft<'a>,
     names: &[&'a [u8]],
-) -> Result<(), LineError>
+) -> Result<(), LineError<Rule>>
     requires draft { IsDraft draft.old }
     requires allowed { allows draft.old.stage (Inputs (map (λ n. n.now) names.now)) ≡ true }
     requires some { map (λ n. n.now) names.now ≢ [] }
@@ -58,7 +59,7 @@ pub fn read_inputs<'a>(
         return Err(LineError::Broken(Rule::Doubled));
     }
     let count = draft.inputs.len();
-    if count > 64 {
+    if count > MOST_PORTS {
         return Err(LineError::Broken(Rule::Count));
     }
     draft.stage = Stage::Inputs;

@@ -1,19 +1,16 @@
 //! The rules of a line, by what is kept of the lines before.
-ghost use Rattle.std.specs.Prelude.{◌≡◌, ◌≤◌, ◌<◌, ◌^◌, map, length};
-ghost use Rattle.net_lang.specs.Forms.{Form, Inputs, Let, Output};
+ghost use Rattle.std.specs.Prelude.{◌≡◌, ◌≤◌};
 ghost use Rattle.net_lang.specs.FormView.{form};
-ghost use Rattle.net_lang.specs.LineRules.{allows, is_over, first_of, first_rule};
-ghost use Rattle.net_lang.specs.Draft.{net_of, IsDraft};
-ghost use Rattle.net_lang.specs.Written.{expression};
+ghost use Rattle.net_lang.specs.LineRules.{allows, may_have, is_over, first_of};
+ghost use Rattle.net_lang.specs.Draft.{IsDraft, rule_by};
 
 use super::draft::Draft;
 use super::form::Form;
-use super::measure::{delays, finds_all, joins, span};
-use super::names::{is_let_name, is_port_name};
-use super::rules::{Rule, Stage};
-use super::written::Written;
+use super::rules::{Rule, Stage, Target};
+use super::scope::Measured;
+use net_model::{MOST_DELAYS, MOST_JOINS, MOST_PORTS, MOST_SPAN, is_let_name, is_port_name};
 
-/// Whether a form may stand in this place.
+/// Whether a place allows a line of this form.
 pub fn allows(stage: Stage, line: &Form<'_>) -> bool
     ensures { result ≡ allows stage (form line.now) }
 {
@@ -27,22 +24,20 @@ pub fn allows(stage: Stage, line: &Form<'_>) -> bool
             Stage::Inputs => true,
             _ => false,
         },
-        Form::Let(_, _) => match stage {
+        Form::Define(target, _, _) => match stage {
             Stage::Inputs => true,
             Stage::Lets => true,
-            _ => false,
-        },
-        Form::Output(_, _) => match stage {
-            Stage::Inputs => true,
-            Stage::Lets => true,
-            Stage::Outputs => true,
+            Stage::Outputs => match target {
+                Target::Let => false,
+                Target::Output => true,
+            },
             _ => false,
         },
     }
 }
 
 /// The first of the rules that are broken, in the order in which they are judged.
-pub fn first_of(bad: bool, doubled: bool, unknown: bool, many: bool, late: bool) -> Option<Rule>
+fn first_of(bad: bool, doubled: bool, unknown: bool, many: bool, late: bool) -> Option<Rule>
     ensures { result ≡ first_of bad doubled unknown many late }
 {
     if bad {
@@ -63,47 +58,35 @@ pub fn first_of(bad: bool, doubled: bool, unknown: bool, many: bool, late: bool)
 fn is_over(inputs: usize, outputs: usize, joins: u32, delays: u32) -> bool
     ensures { result ≡ is_over inputs outputs joins delays }
 {
-    inputs > 64 || outputs > 64 || joins > 16384 || delays > 16384
+    inputs > MOST_PORTS || outputs > MOST_PORTS || joins > MOST_JOINS || delays > MOST_DELAYS
 }
 
-/// The first rule that a let breaks.
-pub fn judge_let(draft: &Draft<'_>, name: &[u8], body: &Written<'_>) -> Option<Rule>
-    requires draft { IsDraft draft.now }
-    requires lets { length draft.now.lets.items < 2 ^ 31 }
-    ensures { result ≡ first_rule (net_of draft.now) (Let name.now (expression body.now)) }
+fn may_have(target: Target, name: &[u8]) -> bool
+    ensures { result ≡ may_have target name.now }
 {
-    let bad = !is_let_name(name);
+    match target {
+        Target::Let => is_let_name(name),
+        Target::Output => is_port_name(name),
+    }
+}
+
+/// The first rule that a let or an output of this name breaks, whose expression was measured.
+pub fn judge(draft: &Draft<'_>, target: Target, name: &[u8], body: Measured) -> Option<Rule>
+    requires draft { IsDraft draft.now }
+    requires few { (body.joins ≤ 20000) × (body.delays ≤ 20000) }
+    ensures { result ≡ rule_by draft.now target name.now body }
+{
+    let bad = !may_have(target, name);
     let doubled = draft.scope.get(name).is_some();
-    let unknown = !finds_all(body, &draft.scope);
-    let inputs = draft.inputs.len();
-    let outputs = draft.outputs.len();
+    let outputs = match target {
+        Target::Let => draft.outputs.len(),
+        Target::Output => draft.outputs.len() + 1,
+    };
     let many = is_over(
-        inputs,
+        draft.inputs.len(),
         outputs,
-        draft.joins + joins(body),
-        draft.delays + delays(body),
+        draft.joins + body.joins,
+        draft.delays + body.delays,
     );
-    let late = span(body, &draft.scope) > 1000000;
-    first_of(bad, doubled, unknown, many, late)
-}
-
-/// The first rule that an output breaks.
-pub fn judge_output(draft: &Draft<'_>, name: &[u8], body: &Written<'_>) -> Option<Rule>
-    requires draft { IsDraft draft.now }
-    requires lets { length draft.now.lets.items < 2 ^ 31 }
-    ensures { result ≡ first_rule (net_of draft.now) (Output name.now (expression body.now)) }
-{
-    let bad = !is_port_name(name);
-    let doubled = draft.scope.get(name).is_some();
-    let unknown = !finds_all(body, &draft.scope);
-    let inputs = draft.inputs.len();
-    let outputs = draft.outputs.len();
-    let many = is_over(
-        inputs,
-        outputs + 1,
-        draft.joins + joins(body),
-        draft.delays + delays(body),
-    );
-    let late = span(body, &draft.scope) > 1000000;
-    first_of(bad, doubled, unknown, many, late)
+    first_of(bad, doubled, !body.known, many, body.span > MOST_SPAN)
 }

@@ -1,28 +1,29 @@
-//! A line after the lines before, and all lines.
-ghost use Rattle.std.specs.Prelude.{◌≡◌, ◌≤◌, ◌<◌, ◌^◌, true, map, length};
-ghost use Rattle.rl_text.specs.Words.{words, line};
-ghost use Rattle.net_lang.specs.Grammar.{written_nesting};
-ghost use Rattle.net_lang.specs.Forms.{Header, Let, Output, IsFormed};
+//! A line after the lines before.
+ghost use Rattle.std.specs.Prelude.{◌≡◌, ◌≤◌, ◌<◌, ◌^◌, true, length};
+ghost use Rattle.line_lang.specs.Language.{IsRead};
+ghost use Rattle.line_lang.specs.Judging.{IsEnded};
+ghost use Rattle.net_lang.specs.declared.reader.rules.Rule.TheVariants as rule;
+ghost use Rattle.net_lang.specs.Forms.{Header, IsFormed};
+ghost use Rattle.net_lang.specs.Forms as forms;
+ghost use Rattle.net_lang.specs.FormReading.{form_at};
 ghost use Rattle.net_lang.specs.FormView.{form};
-ghost use Rattle.net_lang.specs.LineRules.{allows};
-ghost use Rattle.net_lang.specs.Draft.{IsDraft, Judges, IsJudged};
-ghost use Rattle.net_lang.specs.Outcome.{error_of, IsWhole};
-ghost use Rattle.net_lang.specs.Written.{expression};
+ghost use Rattle.net_lang.specs.LineRules.{SoFar, nothing_yet, allows};
+ghost use Rattle.net_lang.specs.Spelling.{networks};
+ghost use Rattle.net_lang.specs.Draft.{so_far, IsDraft, Judges};
 
-use super::draft::{Draft, LineError};
-use super::error::NetError;
+use super::define::read_define;
+use super::draft::Draft;
 use super::form::{Form, form_at};
 use super::inputs::read_inputs;
-use super::judge::{allows, judge_let, judge_output};
-use super::push::{push_let, push_output};
-use super::reading::ReadError;
+use super::judge::allows;
 use super::rules::{Rule, Stage};
 use super::scope::Scope;
-use super::written::Written;
-use rl_text::{Line, Word};
+use line_lang::{LineError, LineReader};
+use net_model::Network;
+use rl_text::LineWords;
 use std::alloc::Global;
 
-fn read_header(draft: &mut Draft<'_>) -> Result<(), LineError>
+fn read_header(draft: &mut Draft<'_>) -> Result<(), LineError<Rule>>
     requires draft { IsDraft draft.old }
     requires allowed { allows draft.old.stage Header ≡ true }
     ensures { Judges draft.old Header draft.new result }
@@ -31,46 +32,8 @@ fn read_header(draft: &mut Draft<'_>) -> Result<(), LineError>
     Ok(())
 }
 
-fn read_let<'a>(
-    alloc: Global,
-    draft: &mut Draft<'a>,
-    name: &'a [u8],
-    body: &Written<'_>,
-) -> Result<(), LineError>
-    requires draft { IsDraft draft.old }
-    requires lets { length draft.old.lets.items < 2 ^ 31 }
-    requires allowed { allows draft.old.stage (Let name.now (expression body.now)) ≡ true }
-    requires nested { written_nesting (expression body.now) ≤ 64 }
-    ensures { Judges draft.old (Let name.now (expression body.now)) draft.new result }
-{
-    if let Some(rule) = judge_let(draft, name, body) {
-        return Err(LineError::Broken(rule));
-    }
-    push_let(alloc, draft, name, body)?;
-    Ok(())
-}
-
-fn read_output<'a>(
-    alloc: Global,
-    draft: &mut Draft<'a>,
-    name: &'a [u8],
-    body: &Written<'_>,
-) -> Result<(), LineError>
-    requires draft { IsDraft draft.old }
-    requires lets { length draft.old.lets.items < 2 ^ 31 }
-    requires allowed { allows draft.old.stage (Output name.now (expression body.now)) ≡ true }
-    requires nested { written_nesting (expression body.now) ≤ 64 }
-    ensures { Judges draft.old (Output name.now (expression body.now)) draft.new result }
-{
-    if let Some(rule) = judge_output(draft, name, body) {
-        return Err(LineError::Broken(rule));
-    }
-    push_output(alloc, draft, name, body)?;
-    Ok(())
-}
-
-/// Judges a form that its place allows, and keeps it where it stands.
-fn read_form<'a>(alloc: Global, draft: &mut Draft<'a>, line: &Form<'a>) -> Result<(), LineError>
+/// Judges a form that its place allows, and keeps it where it breaks no rule.
+fn read_form<'a>(alloc: Global, draft: &mut Draft<'a>, line: &Form<'a>) -> Result<(), LineError<Rule>>
     requires draft { IsDraft draft.old }
     requires lets { length draft.old.lets.items < 2 ^ 31 }
     requires allowed { allows draft.old.stage (form line.now) ≡ true }
@@ -80,47 +43,81 @@ fn read_form<'a>(alloc: Global, draft: &mut Draft<'a>, line: &Form<'a>) -> Resul
     match line {
         Form::Header => read_header(draft),
         Form::Inputs(names) => read_inputs(alloc, draft, names),
-        Form::Let(name, body) => read_let(alloc, draft, *name, body),
-        Form::Output(name, body) => read_output(alloc, draft, *name, body),
+        Form::Define(target, name, body) => read_define(alloc, draft, *target, *name, body),
     }
 }
 
-/// Judges a line after those before, and keeps it where it stands.
-fn read_line<'a>(alloc: Global, draft: &mut Draft<'a>, ws: &[Word<'a>]) -> Result<(), LineError>
-    requires draft { IsDraft draft.old }
-    requires lets { length draft.old.lets.items < 2 ^ 31 }
-    ensures { IsJudged draft.old (words ws.now) draft.new result }
-{
-    let line = match form_at(alloc, ws) {
-        Ok(line) => line,
-        Err(ReadError::Syntax) => return Err(LineError::Broken(Rule::Syntax)),
-        Err(ReadError::NoMemory) => return Err(LineError::NoMemory),
-    };
-    if !allows(draft.stage, &line) {
-        return Err(LineError::Broken(Rule::Syntax));
+impl<'a> LineReader<'a> for Draft<'a> {
+    type Line = Form<'a>;
+
+    type Rule = Rule;
+
+    type Value = Network;
+
+    ghost SoFar = { SoFar };
+
+    ghost Form = { forms.Form };
+
+    ghost language = { networks };
+
+    ghost reading = { form_at };
+
+    ghost form = { form };
+
+    ghost so_far = { so_far };
+
+    ghost is_sound = { IsDraft };
+
+    ghost size = { λ d. length d.lets.items };
+
+    fn grammar_is_read()
+        ensures { IsRead networks form_at }
+    {}
+
+    fn syntax() -> Rule
+        ensures { result ≡ rule.Syntax }
+    {
+        Rule::Syntax
     }
-    read_form(alloc, draft, &line)
+
+    fn form_at(alloc: Global, line: LineWords<'a>) -> Result<Form<'a>, LineError<Rule>> {
+        let words = line.collect(alloc)?;
+        form_at(alloc, &words)
+    }
+
+    fn allows(&self, line: &Form<'a>) -> bool {
+        allows(self.stage, line)
+    }
+
+    fn judge(&mut self, alloc: Global, line: &Form<'a>) -> Result<(), LineError<Rule>> {
+        read_form(alloc, self, line)
+    }
+
+    fn whole(self) -> Option<Network>
+        requires { IsDraft self }
+        ensures { IsEnded networks (so_far self.entry) result }
+    {
+        let Draft {
+            stage,
+            inputs,
+            lets,
+            outputs,
+            ..
+        } = self;
+        match stage {
+            Stage::Outputs => Some(Network::new(inputs, lets, outputs)),
+            _ => None,
+        }
+    }
 }
 
-fn error_of(rule: Rule, line: u32) -> NetError
-    ensures { result ≡ error_of rule line }
+/// A draft of no lines.
+pub fn nothing_yet<'a>(alloc: Global) -> Draft<'a>
+    ensures empty { so_far result ≡ nothing_yet }
+    ensures draft { IsDraft result }
+    ensures small { length result.lets.items ≡ 0 }
 {
-    match rule {
-        Rule::Syntax => NetError::Syntax(line),
-        Rule::Name => NetError::Name(line),
-        Rule::Doubled => NetError::Doubled(line),
-        Rule::Unknown => NetError::Unknown(line),
-        Rule::Count => NetError::Count(line),
-        Rule::Span => NetError::Span(line),
-    }
-}
-
-/// What all lines together are, or the rule that is broken first. `end` is the line of the text's end.
-pub fn read_lines<'a>(alloc: Global, all: &[Line<'a>], end: u32) -> Result<Draft<'a>, NetError>
-    requires { length all.now < 2 ^ 31 }
-    ensures { IsWhole (map line all.now) end result }
-{
-    let mut draft = Draft {
+    Draft {
         stage: Stage::Start,
         scope: Scope::new(alloc),
         inputs: Vec::new(alloc),
@@ -128,16 +125,5 @@ pub fn read_lines<'a>(alloc: Global, all: &[Line<'a>], end: u32) -> Result<Draft
         outputs: Vec::new(alloc),
         joins: 0,
         delays: 0,
-    };
-    for line in all {
-        match read_line(alloc, &mut draft, &line.words) {
-            Ok(()) => {}
-            Err(LineError::Broken(rule)) => return Err(error_of(rule, line.number)),
-            Err(LineError::NoMemory) => return Err(NetError::NoMemory),
-        }
-    }
-    match draft.stage {
-        Stage::Outputs => Ok(draft),
-        _ => Err(NetError::Syntax(end)),
     }
 }

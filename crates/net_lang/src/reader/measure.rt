@@ -1,90 +1,91 @@
 //! What an expression, as it is written, comes to.
-ghost use Rattle.std.specs.Prelude.{◌≡◌, ◌≤◌, min, IfOk};
+ghost use Rattle.std.specs.Prelude.{◌≡◌, ◌≤◌, ◌+◌, ◌&&◌, min, max, IfOk};
 ghost use Rattle.rl_text.specs.Numbers.{number_of};
-ghost use Rattle.net_lang.specs.Known.{find, IsSmall, found_formula, found_span, finds_all, written_joins, written_delays};
+ghost use Rattle.rl_text.specs.NameMap.{find};
+ghost use Rattle.net_lang.specs.Known.{IsSmall, found_formula, found_span, is_value, span_at, finds_all, written_joins, written_delays};
 ghost use Rattle.net_lang.specs.Written.{expression};
-ghost use Rattle.net_lang.specs.View.{formula};
+ghost use Rattle.net_model.specs.View.{formula};
 
-use super::scope::{Place, Scope};
+use super::scope::{Known, Measured, Place, Scope};
 use super::written::Written;
-use crate::ast::Expr;
+use net_model::Expr;
+use rl_text::capped_number;
 use rl_time::NoMemory;
 use std::alloc::Global;
 
-/// How many `min`, `max` and `lt` there are, as far as it matters.
-pub fn joins(written: &Written<'_>) -> u32
-    ensures { result ≡ min (written_joins (expression written.now)) 20000 }
+/// Of a name, by what is known of it.
+fn of_name(known: Option<Known>) -> Measured
+    ensures known { result.known ≡ is_value known }
+    ensures joins { result.joins ≡ 0 }
+    ensures delays { result.delays ≡ 0 }
+    ensures span { result.span ≡ span_at known }
 {
-    match written {
-        Written::Never => 0,
-        Written::Name(_) => 0,
-        Written::Min(a, b) => (joins(a) + joins(b) + 1).min(20000),
-        Written::Max(a, b) => (joins(a) + joins(b) + 1).min(20000),
-        Written::Lt(a, b) => (joins(a) + joins(b) + 1).min(20000),
-        Written::Inc(a, _) => joins(a),
+    let (known, span) = match known {
+        None => (false, 0),
+        Some(known) => (!matches!(known.place, Place::Output), known.span),
+    };
+    Measured {
+        known,
+        joins: 0,
+        delays: 0,
+        span,
     }
 }
 
-/// How many `inc` there are, as far as it matters.
-pub fn delays(written: &Written<'_>) -> u32
-    ensures { result ≡ min (written_delays (expression written.now)) 20000 }
+/// Of an operator with two operands.
+fn of_join(a: Measured, b: Measured) -> Measured
+    requires joins { (a.joins ≤ 20000) × (b.joins ≤ 20000) }
+    requires delays { (a.delays ≤ 20000) × (b.delays ≤ 20000) }
+    ensures known { result.known ≡ (a.known && b.known) }
+    ensures joins { result.joins ≡ min (a.joins + b.joins + 1) 20000 }
+    ensures delays { result.delays ≡ min (a.delays + b.delays) 20000 }
+    ensures span { result.span ≡ max a.span b.span }
 {
-    match written {
-        Written::Never => 0,
-        Written::Name(_) => 0,
-        Written::Min(a, b) => (delays(a) + delays(b)).min(20000),
-        Written::Max(a, b) => (delays(a) + delays(b)).min(20000),
-        Written::Lt(a, b) => (delays(a) + delays(b)).min(20000),
-        Written::Inc(a, _) => (delays(a) + 1).min(20000),
+    Measured {
+        known: a.known && b.known,
+        joins: (a.joins + b.joins + 1).min(20000),
+        delays: (a.delays + b.delays).min(20000),
+        span: a.span.max(b.span),
     }
 }
 
-/// Whether each name is an input or a let.
-pub fn finds_all(written: &Written<'_>, scope: &Scope<'_>) -> bool
-    ensures { result ≡ finds_all (find scope.now) (expression written.now) }
+/// Of a delay by the number that these digits write.
+fn of_delay(a: Measured, digits: &[u8]) -> Measured
+    requires delays { a.delays ≤ 20000 }
+    requires span { a.span ≤ 1000001 }
+    ensures known { result.known ≡ a.known }
+    ensures joins { result.joins ≡ a.joins }
+    ensures delays { result.delays ≡ min (a.delays + 1) 20000 }
+    ensures span { result.span ≡ min (a.span + min (number_of digits.now) 1000001) 1000001 }
 {
-    match written {
-        Written::Never => true,
-        Written::Name(name) => match scope.get(name) {
-            None => false,
-            Some(known) => match known.place {
-                Place::Output => false,
-                _ => true,
-            },
-        },
-        Written::Min(a, b) => finds_all(a, scope) && finds_all(b, scope),
-        Written::Max(a, b) => finds_all(a, scope) && finds_all(b, scope),
-        Written::Lt(a, b) => finds_all(a, scope) && finds_all(b, scope),
-        Written::Inc(a, _) => finds_all(a, scope),
+    Measured {
+        known: a.known,
+        joins: a.joins,
+        delays: (a.delays + 1).min(20000),
+        span: (a.span + capped_number(digits, 1000001)).min(1000001),
     }
 }
 
-/// A constant, as far as it matters.
-fn number(digits: &[u8]) -> u64
-    ensures { result ≡ min (number_of digits.now) 1000001 }
-{
-    let mut n: u64 = 0;
-    for d in digits {
-        n = (n * 10 + u64::from(d.saturating_sub(48))).min(1000001);
-    }
-    n
-}
-
-/// The span of an expression, as far as it matters.
-pub fn span(written: &Written<'_>, scope: &Scope<'_>) -> u64
+/// What an expression comes to.
+pub fn measure(written: &Written<'_>, scope: &Scope<'_>) -> Measured
     requires { IsSmall (find scope.now) }
-    ensures { result ≡ min (found_span (find scope.now) (expression written.now)) 1000001 }
+    ensures known { result.known ≡ finds_all (find scope.now) (expression written.now) }
+    ensures joins { result.joins ≡ min (written_joins (expression written.now)) 20000 }
+    ensures delays { result.delays ≡ min (written_delays (expression written.now)) 20000 }
+    ensures span { result.span ≡ min (found_span (find scope.now) (expression written.now)) 1000001 }
 {
     match written {
-        Written::Never => 0,
-        Written::Name(name) => match scope.get(name) {
-            None => 0,
-            Some(known) => known.span,
+        Written::Never => Measured {
+            known: true,
+            joins: 0,
+            delays: 0,
+            span: 0,
         },
-        Written::Min(a, b) => span(a, scope).max(span(b, scope)),
-        Written::Max(a, b) => span(a, scope).max(span(b, scope)),
-        Written::Lt(a, b) => span(a, scope).max(span(b, scope)),
-        Written::Inc(a, n) => (span(a, scope) + number(n)).min(1000001),
+        Written::Name(name) => of_name(scope.get(name)),
+        Written::Min(a, b) => of_join(measure(a, scope), measure(b, scope)),
+        Written::Max(a, b) => of_join(measure(a, scope), measure(b, scope)),
+        Written::Lt(a, b) => of_join(measure(a, scope), measure(b, scope)),
+        Written::Inc(a, n) => of_delay(measure(a, scope), n),
     }
 }
 
@@ -121,7 +122,7 @@ pub fn resolve(alloc: Global, written: &Written<'_>, scope: &Scope<'_>) -> Resul
         }
         Written::Inc(a, n) => {
             let a = resolve(alloc, a, scope)?;
-            Ok(Expr::Inc(Box::new(alloc, a)?, number(n) as u32))
+            Ok(Expr::Inc(Box::new(alloc, a)?, capped_number(n, 1000001)))
         }
     }
 }

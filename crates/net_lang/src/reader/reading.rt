@@ -3,48 +3,26 @@ ghost use Rattle.rl_text.specs.Words.{words};
 ghost use Rattle.rl_text.specs.Numbers.{is_plain};
 ghost use Rattle.net_lang.specs.Reading.{after_sign, constant, pair, delay, expr_at};
 ghost use Rattle.net_lang.specs.Written.{expression, Gives};
-ghost use Rattle.net_lang.specs.declared.reader.reading.ReadError.TheVariants.{NoMemory};
 
+use super::rules::Rule;
 use super::word::{Key, key_of};
 use super::written::Written;
+use line_lang::LineError;
 use rl_text::{Kind, Word};
-use std::alloc::{AllocError, AllocFailed, Global};
+use std::alloc::Global;
 
-/// Why an expression is not read.
-#[derive(Clone, Copy, Debug, PartialEq, Eq)]
-pub enum ReadError {
-    Syntax,
-    NoMemory,
-}
-
-impl From<AllocError> for ReadError {
-    ghost from_gives = { λ _ e. e ≡ NoMemory };
-
-    fn from(_e: AllocError) -> ReadError {
-        ReadError::NoMemory
-    }
-}
-
-impl<T: Drop> From<AllocFailed<T>> for ReadError {
-    ghost from_gives = { λ _ e. e ≡ NoMemory };
-
-    fn from(_e: AllocFailed<T>) -> ReadError {
-        ReadError::NoMemory
-    }
-}
-
-/// The words behind this sign, where it stands at the front; else `Syntax`.
+/// The words after this sign, where it is the first; else bad syntax.
 #[tactic(auto, unfolding(crate::specs::Reading::after_sign))]
-pub fn after_sign<'t, 'a>(ws: &'t [Word<'a>], text: &[u8]) -> Result<&'t [Word<'a>], ReadError>
+pub fn after_sign<'t, 'a>(ws: &'t [Word<'a>], text: &[u8]) -> Result<&'t [Word<'a>], LineError<Rule>>
     ensures { Gives (λ x. words x.now) result (after_sign text.now (words ws.now)) }
 {
     match ws {
-        [] => Err(ReadError::Syntax),
+        [] => Err(LineError::Broken(Rule::Syntax)),
         [w, rest @ ..] => {
             if matches!(w.kind, Kind::Symbol) && w.bytes == text {
                 Ok(rest)
             } else {
-                Err(ReadError::Syntax)
+                Err(LineError::Broken(Rule::Syntax))
             }
         }
     }
@@ -62,16 +40,16 @@ fn is_plain(digits: &[u8]) -> bool
 }
 
 #[tactic(auto, unfolding(crate::specs::Reading::constant))]
-fn constant<'t, 'a>(ws: &'t [Word<'a>]) -> Result<(&'a [u8], &'t [Word<'a>]), ReadError>
+fn constant<'t, 'a>(ws: &'t [Word<'a>]) -> Result<(&'a [u8], &'t [Word<'a>]), LineError<Rule>>
     ensures { Gives (λ x. (x.0.now, words x.1.now)) result (constant (words ws.now)) }
 {
     match ws {
-        [] => Err(ReadError::Syntax),
+        [] => Err(LineError::Broken(Rule::Syntax)),
         [w, rest @ ..] => {
             if matches!(w.kind, Kind::Number) && is_plain(w.bytes) {
                 Ok((w.bytes, rest))
             } else {
-                Err(ReadError::Syntax)
+                Err(LineError::Broken(Rule::Syntax))
             }
         }
     }
@@ -82,7 +60,7 @@ type Pair<'t, 'a> = (Box<Written<'a>>, Box<Written<'a>>, &'t [Word<'a>]);
 /// The two operands of an operator, in parentheses.
 #[cycle(expr)]
 #[tactic(auto, unfolding(crate::specs::Reading::pair))]
-fn pair<'t, 'a>(alloc: Global, ws: &'t [Word<'a>], depth: u32) -> Result<Pair<'t, 'a>, ReadError>
+fn pair<'t, 'a>(alloc: Global, ws: &'t [Word<'a>], depth: u32) -> Result<Pair<'t, 'a>, LineError<Rule>>
     ensures { Gives (λ x. (expression x.0.value, expression x.1.value, words x.2.now)) result (pair (expr_at depth) (words ws.now)) }
 {
     let rest = after_sign(ws, b"(")?;
@@ -98,7 +76,7 @@ type Delay<'t, 'a> = (Box<Written<'a>>, &'a [u8], &'t [Word<'a>]);
 /// The operand and the constant of a delay, in parentheses.
 #[cycle(expr)]
 #[tactic(auto, unfolding(crate::specs::Reading::delay))]
-fn delay<'t, 'a>(alloc: Global, ws: &'t [Word<'a>], depth: u32) -> Result<Delay<'t, 'a>, ReadError>
+fn delay<'t, 'a>(alloc: Global, ws: &'t [Word<'a>], depth: u32) -> Result<Delay<'t, 'a>, LineError<Rule>>
     ensures { Gives (λ x. (expression x.0.value, x.1.now, words x.2.now)) result (delay (expr_at depth) (words ws.now)) }
 {
     let rest = after_sign(ws, b"(")?;
@@ -116,16 +94,16 @@ pub fn expr<'t, 'a>(
     alloc: Global,
     ws: &'t [Word<'a>],
     depth: u32,
-) -> Result<(Written<'a>, &'t [Word<'a>]), ReadError>
+) -> Result<(Written<'a>, &'t [Word<'a>]), LineError<Rule>>
     ensures { Gives (λ x. (expression x.0, words x.1.now)) result (expr_at depth (words ws.now)) }
 {
     match ws {
-        [] => Err(ReadError::Syntax),
+        [] => Err(LineError::Broken(Rule::Syntax)),
         [w, rest @ ..] => match key_of(w) {
             Key::Never => Ok((Written::Never, rest)),
             Key::Plain => Ok((Written::Name(w.bytes), rest)),
-            Key::NoName => Err(ReadError::Syntax),
-            _ if depth == 0 => Err(ReadError::Syntax),
+            Key::NoName => Err(LineError::Broken(Rule::Syntax)),
+            _ if depth == 0 => Err(LineError::Broken(Rule::Syntax)),
             Key::Min => {
                 let (a, b, rest) = pair(alloc, rest, depth - 1)?;
                 Ok((Written::Min(a, b), rest))

@@ -9,7 +9,7 @@ pub enum Rule {
     Span,
 }
 
-/// Which form stands last.
+/// Of which form the last line is.
 #[derive(Clone, Copy, Debug, PartialEq, Eq)]
 pub enum Stage {
     Start,
@@ -17,4 +17,11 @@ pub enum Stage {
     Inputs,
     Lets,
     Outputs,
+}
+
+/// What a line defines.
+#[derive(Clone, Copy, Debug, PartialEq, Eq)]
+pub enum Target {
+    Let,
+    Output,
 }

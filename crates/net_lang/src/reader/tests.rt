@@ -2,7 +2,7 @@ ghost use Rattle.std.specs.Prelude.{◌≤◌, length};
 
 use super::error::NetError;
 use super::network::read_network;
-use crate::print::print_network;
+use net_model::print_network;
 use std::alloc::Global;
 use std::process::Abort;
 use std::test::Fail;

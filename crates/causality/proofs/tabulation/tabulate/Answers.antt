@@ -1,6 +1,6 @@
 use Rattle.std.proofs.Common.{◌≡◌, ◌+◌, ◌^◌, ◌≤◌, length, arith, rules, sym, ap, ◌∙◌, subst}
 use Rattle.std.specs.Prelude.{All, slice_index_or, List, []}
-use Rattle.net_lang.specs.Rules.{names_of}
+use Rattle.net_model.specs.Rules.{names_of}
 use Rattle.func_table.specs.Table.{Row, Table, table}
 use Rattle.func_table.specs.Rules.{IsTable}
 use Rattle.func_table.specs.Function.{table_function}

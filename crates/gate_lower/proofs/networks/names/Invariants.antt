@@ -1,5 +1,5 @@
 use Rattle.std.proofs.Common.{◌≡◌, take}
-use Rattle.net_lang.specs.Rules.{names_of}
+use Rattle.net_model.specs.Rules.{names_of}
 use Rattle.gate_lower.proofs.networks.names.Given as goal
 
 abbrev pub invariant-loop-binding : goal.invariant-loop-binding

@@ -2,7 +2,7 @@ use Rattle.std.proofs.Common.{take}
 use Rattle.term_store.specs.Trees.{tree, trees_at}
 use Rattle.term_store.specs.Planting.{IsPlanted}
 use Rattle.minterm.specs.Minterms.{joined}
-use Rattle.minterm.specs.Room.{TakesRoom}
+use Rattle.term_store.specs.Room.{TakesRoom}
 use Rattle.minterm.specs.Steps.{join_tree}
 use Rattle.minterm.proofs.joining.put_joined.Given as goal
 

@@ -1,7 +1,7 @@
 use Rattle.std.proofs.Common.{◌≡◌, ◌≤◌, length, take, vec_len, vec_capacity}
 use Rattle.term_store.specs.Planting.{ArePlanted}
 use Rattle.minterm.specs.Minterms.{number_terms}
-use Rattle.minterm.specs.Room.{TakesRoom}
+use Rattle.term_store.specs.Room.{TakesRoom}
 use Rattle.minterm.proofs.row.put_numbers.Given as goal
 
 abbrev pub invariant-loop-input : goal.invariant-loop-input

@@ -1,7 +1,7 @@
 use Rattle.std.proofs.Common.{◌≡◌, length, vec_len, vec_capacity}
 use Rattle.term_store.specs.Terms.{input_trees}
 use Rattle.term_store.specs.Planting.{ArePlanted}
-use Rattle.minterm.specs.Room.{TakesRoom}
+use Rattle.term_store.specs.Room.{TakesRoom}
 use Rattle.minterm.proofs.synthesis.put_inputs.Given as goal
 
 abbrev pub invariant-loop-input : goal.invariant-loop-input

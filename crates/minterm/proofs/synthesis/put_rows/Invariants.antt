@@ -1,5 +1,5 @@
 use Rattle.std.proofs.Common.{◌≡◌, ◌*◌, take, vec_len, vec_capacity}
-use Rattle.minterm.specs.Room.{TakesRoom}
+use Rattle.term_store.specs.Room.{TakesRoom}
 use Rattle.minterm.specs.Steps.{AreRowsPlanted}
 use Rattle.minterm.proofs.synthesis.put_rows.Given as goal
 

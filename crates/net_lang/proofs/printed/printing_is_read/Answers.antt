@@ -1,4 +1,4 @@
-use Rattle.net_lang.specs.Text.{network_text}
+use Rattle.net_model.specs.Text.{network_text}
 use Rattle.net_lang.proofs.printed.printing_is_read.Goals as goal
 
 pub returns : goal.returns

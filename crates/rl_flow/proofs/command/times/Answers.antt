@@ -1,5 +1,5 @@
 use Rattle.std.proofs.Common.{take, subst, sym}
-use Rattle.spike_eval.specs.Early.{AreEarly}
+use Rattle.net_model.specs.Early.{AreEarly}
 use Rattle.rl_flow.specs.Words.{texts_of}
 use Rattle.rl_flow.proofs.Asking.{are_early}
 use Rattle.rl_flow.proofs.command.times.Goals as goal

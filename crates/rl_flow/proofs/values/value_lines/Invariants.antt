@@ -1,5 +1,5 @@
 use Rattle.std.proofs.Common.{◌≡◌, ◌++◌, drop}
-use Rattle.net_lang.specs.Rules.{names_of}
+use Rattle.net_model.specs.Rules.{names_of}
 use Rattle.rl_flow.specs.Values.{value_lines}
 use Rattle.rl_flow.proofs.values.value_lines.Given as goal
 

@@ -1,5 +1,5 @@
 use Rattle.std.proofs.Common.{refl, arith, subst, ap, length}
-use Rattle.net_lang.specs.View.{formula}
+use Rattle.net_model.specs.View.{formula}
 use Rattle.term_store.specs.Planting.{IsReady}
 use Rattle.term_store.proofs.Put.{put_leaf, put_two, put_named, within_more}
 use Rattle.term_store.proofs.Ready.{ready_more}

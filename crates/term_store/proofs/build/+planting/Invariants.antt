@@ -1,5 +1,5 @@
 use Rattle.std.proofs.Common.{◌+◌, ◌*◌}
-use Rattle.net_lang.specs.View.{formula}
+use Rattle.net_model.specs.View.{formula}
 use Rattle.term_store.specs.Planting.{operators}
 use Rattle.term_store.proofs.build.+planting.Given as goal
 

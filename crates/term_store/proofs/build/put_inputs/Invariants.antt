@@ -3,7 +3,7 @@ use Rattle.term_store.specs.declared.node.Node.TheVariants as node
 use Rattle.term_store.specs.Terms.{input_trees}
 use Rattle.term_store.specs.Nodes.{holds, IsNodes}
 use Rattle.term_store.specs.Trees.{plant, IsPrefix}
-use Rattle.term_store.specs.Planting.{TakesRoom}
+use Rattle.term_store.specs.Planting.{TakesRoomBesideNever}
 use Rattle.term_store.proofs.build.put_inputs.Given as goal
 
 abbrev pub invariant-loop-input : goal.invariant-loop-input
@@ -12,5 +12,5 @@ invariant-loop-input l = record {
   is_nodes : IsNodes l.store.nodes;
   grown : IsPrefix l.initial.store.nodes l.store.nodes;
   held : (i : ℕ) → i < l.input → holds l.store.nodes (node.Input i) ≡ true;
-  room : TakesRoom l.initial.store l.store l.input;
+  room : TakesRoomBesideNever l.initial.store l.store l.input;
 }

@@ -1,6 +1,6 @@
 use Rattle.std.proofs.Common.{◌≡◌, ◌++◌, ◌∷◌, [], ◌∙◌, arith}
 use Rattle.std.proofs.lemmas.Grind.{common_steps}
-use Rattle.net_lang.specs.View.{formula}
+use Rattle.net_model.specs.View.{formula}
 use Rattle.term_store.proofs.Runs.{run_let, ready_let, room_for_body, room_body}
 use Rattle.term_store.proofs.build.put_lets.Goals as goal
 

@@ -1,4 +1,4 @@
-use Rattle.std.proofs.Common.{sym, ◌∙◌}
+use Rattle.std.proofs.Common.{refl, sym, ◌∙◌}
 use Rattle.std.proofs.lemmas.List.{map_push}
 use Rattle.net_lang.proofs.Names.{one_more, none_more, all_done}
 use Rattle.net_lang.proofs.reader.form.names_at.Goals as goal
@@ -7,7 +7,7 @@ pub returns : goal.returns
 returns c = sym c.loop-w.invariant ∙ all_done _ c.args.ws.now c.loop-w.w-index c.loop-w-test.false
 
 pub returns-then-not-is_name : goal.returns-then-not-is_name
-returns-then-not-is_name c = let h = sym c.is_name.ensures ∙ c.if-not-is_name.true in sym c.loop-w.invariant ∙ none_more _ c.args.ws.now c.loop-w.w-index _ c.loop-w-test.true h
+returns-then-not-is_name c = let h = sym c.is_name.ensures ∙ c.if-not-is_name.true in (refl, sym c.loop-w.invariant ∙ none_more _ c.args.ws.now c.loop-w.w-index _ c.loop-w-test.true h)
 
 pub loop-w-preserved : goal.loop-w-preserved
 loop-w-preserved c =

@@ -16,16 +16,16 @@ returns-then-not-fresh c =
     (good_names c.args.names.now c.are_port_names-good.result true c.are_port_names-good.ensures c.if-not-good.false)
     (not_fresh c.args.draft.now.inputs.items (all_now c.args.names.now) c.declare.new.inputs.items c.declare.new.scope c.in_ok-fresh.fresh c.if-not-fresh.true c.in_ok-fresh.ensures)
 
-pub returns-then-count-gt64 : goal.returns-then-count-gt64
-returns-then-count-gt64 c =
+pub returns-then-count-gt-MOST_PORTS : goal.returns-then-count-gt-MOST_PORTS
+returns-then-count-gt-MOST_PORTS c =
     let d = fresh c.args.draft.now.inputs.items (all_now c.args.names.now) c.declare.new.inputs.items c.declare.new.scope c.in_ok-fresh.fresh c.if-not-fresh.false c.in_ok-fresh.ensures in
     many_broken c.args.draft.now (all_now c.args.names.now) c.requires.draft c.requires.allowed c.len-count.result
     (good_names c.args.names.now c.are_port_names-good.result true c.are_port_names-good.ensures c.if-not-good.false)
-    d.0 (omega (arith, c.len-count.ensures, c.declare.new.inputs.ok, ap length d.1)) (omega (arith, c.if-count-gt64.true))
+    d.0 (omega (arith, c.len-count.ensures, c.declare.new.inputs.ok, ap length d.1)) (omega (arith, c.if-count-gt-MOST_PORTS.true))
 
 pub returns : goal.returns
 returns c =
     let d = fresh c.args.draft.now.inputs.items (all_now c.args.names.now) c.declare.new.inputs.items c.declare.new.scope c.in_ok-fresh.fresh c.if-not-fresh.false c.in_ok-fresh.ensures in
     inputs_kept c.args.draft.now (all_now c.args.names.now) c.requires.draft c.requires.allowed _ c.len-count.result
     (good_names c.args.names.now c.are_port_names-good.result true c.are_port_names-good.ensures c.if-not-good.false)
-    d.0 (omega (arith, c.len-count.ensures, c.declare.new.inputs.ok, ap length d.1)) (omega (arith, c.if-count-gt64.false)) c.requires.some d.2 refl d.1 refl refl refl refl
+    d.0 (omega (arith, c.len-count.ensures, c.declare.new.inputs.ok, ap length d.1)) (omega (arith, c.if-count-gt-MOST_PORTS.false)) c.requires.some d.2 refl d.1 refl refl refl refl

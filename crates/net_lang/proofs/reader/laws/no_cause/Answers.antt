@@ -1,5 +1,5 @@
-use Rattle.net_lang.proofs.Laws.{no_cause}
+use Rattle.net_lang.proofs.TextLaws.{no_cause}
 use Rattle.net_lang.proofs.reader.laws.no_cause.Goals as goal
 
 pub returns : goal.returns
-returns c = no_cause c.one_list_of_tokens.ensures c.tokens_or_bad_place.ensures
+returns c = no_cause c.never_both.ensures

@@ -1,7 +1,7 @@
 use Rattle.std.proofs.Common.{◌≡◌, ◌<◌, ◌∙◌, ◌↔◌, ap, subst, sym, length, ℕ, false, true}
 use Rattle.std.specs.List.{slice_index_or}
-use Rattle.net_lang.specs.Formula.{Net}
-use Rattle.net_lang.specs.Rules.{IsNetwork, names_of}
+use Rattle.net_model.specs.Formula.{Net}
+use Rattle.net_model.specs.Rules.{IsNetwork, names_of}
 use Rattle.term_store.specs.Terms.{network_trees}
 use Rattle.term_store.specs.Reach.{IsReached}
 use Rattle.term_store.specs.Extracted.{extracted}
@@ -19,7 +19,7 @@ new-requires c =
     let roots = c.args.roots.now in
     let marks : (place : ℕ) → place < length ns → (slice_index_or c.deref.result.now place false ≡ true) ↔ IsReached ns roots place =
     subst (λ ms. (place : ℕ) → place < length ns → (slice_index_or ms place false ≡ true) ↔ IsReached ns roots place) (sym c.deref.ensures.value) c.in_ok-marks.ensures.marks in
-    subst IsNetwork (sym (written_is ns roots c.deref.result.now c.deref-2.result.now c.args.inputs.now _ c.args.outputs.now _ _ c.rules.ensures.rules c.requires.roots marks c.in_ok-lets.ensures.lets (c.deref-2.ensures.value ∙ c.in_ok-lets.ensures.numbers) c.in_ok-bindings.ensures.outputs c.in_ok-names.ensures.copies))
+    subst IsNetwork (sym (written_is ns roots c.deref.result.now c.deref-2.result.now c.args.inputs.now _ c.args.outputs.now _ _ c.rules.ensures.rules c.requires.roots marks c.in_ok-lets.ensures.lets (c.deref-2.ensures.value ∙ c.in_ok-lets.ensures.numbers) c.in_ok-bindings.ensures.outputs c.in_ok-names.ensures))
     (extracted_is_network ns roots c.args.inputs.now c.args.outputs.now c.rules.ensures.rules c.requires.roots c.requires.one_name c.requires.ports c.requires.terms)
 
 pub returns-clause-network : goal.returns-clause-network
@@ -28,7 +28,7 @@ returns-clause-network c =
     let roots = c.args.roots.now in
     let marks : (place : ℕ) → place < length ns → (slice_index_or c.deref.result.now place false ≡ true) ↔ IsReached ns roots place =
     subst (λ ms. (place : ℕ) → place < length ns → (slice_index_or ms place false ≡ true) ↔ IsReached ns roots place) (sym c.deref.ensures.value) c.in_ok-marks.ensures.marks in
-    c.new.ensures ∙ written_is ns roots c.deref.result.now c.deref-2.result.now c.args.inputs.now _ c.args.outputs.now _ _ c.rules.ensures.rules c.requires.roots marks c.in_ok-lets.ensures.lets (c.deref-2.ensures.value ∙ c.in_ok-lets.ensures.numbers) c.in_ok-bindings.ensures.outputs c.in_ok-names.ensures.copies
+    c.new.ensures ∙ written_is ns roots c.deref.result.now c.deref-2.result.now c.args.inputs.now _ c.args.outputs.now _ _ c.rules.ensures.rules c.requires.roots marks c.in_ok-lets.ensures.lets (c.deref-2.ensures.value ∙ c.in_ok-lets.ensures.numbers) c.in_ok-bindings.ensures.outputs c.in_ok-names.ensures
 
 pub returns-clause-outputs : goal.returns-clause-outputs
 returns-clause-outputs c =
@@ -36,7 +36,7 @@ returns-clause-outputs c =
     let roots = c.args.roots.now in
     let marks : (place : ℕ) → place < length ns → (slice_index_or c.deref.result.now place false ≡ true) ↔ IsReached ns roots place =
     subst (λ ms. (place : ℕ) → place < length ns → (slice_index_or ms place false ≡ true) ↔ IsReached ns roots place) (sym c.deref.ensures.value) c.in_ok-marks.ensures.marks in
-    let is : c.new.result ≡ extracted ns roots c.args.inputs.now c.args.outputs.now = c.new.ensures ∙ written_is ns roots c.deref.result.now c.deref-2.result.now c.args.inputs.now _ c.args.outputs.now _ _ c.rules.ensures.rules c.requires.roots marks c.in_ok-lets.ensures.lets (c.deref-2.ensures.value ∙ c.in_ok-lets.ensures.numbers) c.in_ok-bindings.ensures.outputs c.in_ok-names.ensures.copies in
+    let is : c.new.result ≡ extracted ns roots c.args.inputs.now c.args.outputs.now = c.new.ensures ∙ written_is ns roots c.deref.result.now c.deref-2.result.now c.args.inputs.now _ c.args.outputs.now _ _ c.rules.ensures.rules c.requires.roots marks c.in_ok-lets.ensures.lets (c.deref-2.ensures.value ∙ c.in_ok-lets.ensures.numbers) c.in_ok-bindings.ensures.outputs c.in_ok-names.ensures in
     ap (λ (n : Net). names_of n.outputs) is ∙ extracted_outputs ns roots c.args.outputs.now c.requires.one_name
 
 pub returns-clause-terms : goal.returns-clause-terms
@@ -45,7 +45,7 @@ returns-clause-terms c =
     let roots = c.args.roots.now in
     let marks : (place : ℕ) → place < length ns → (slice_index_or c.deref.result.now place false ≡ true) ↔ IsReached ns roots place =
     subst (λ ms. (place : ℕ) → place < length ns → (slice_index_or ms place false ≡ true) ↔ IsReached ns roots place) (sym c.deref.ensures.value) c.in_ok-marks.ensures.marks in
-    let is : c.new.result ≡ extracted ns roots c.args.inputs.now c.args.outputs.now = c.new.ensures ∙ written_is ns roots c.deref.result.now c.deref-2.result.now c.args.inputs.now _ c.args.outputs.now _ _ c.rules.ensures.rules c.requires.roots marks c.in_ok-lets.ensures.lets (c.deref-2.ensures.value ∙ c.in_ok-lets.ensures.numbers) c.in_ok-bindings.ensures.outputs c.in_ok-names.ensures.copies in
+    let is : c.new.result ≡ extracted ns roots c.args.inputs.now c.args.outputs.now = c.new.ensures ∙ written_is ns roots c.deref.result.now c.deref-2.result.now c.args.inputs.now _ c.args.outputs.now _ _ c.rules.ensures.rules c.requires.roots marks c.in_ok-lets.ensures.lets (c.deref-2.ensures.value ∙ c.in_ok-lets.ensures.numbers) c.in_ok-bindings.ensures.outputs c.in_ok-names.ensures in
     ap network_trees is ∙ extracted_terms ns roots c.args.inputs.now c.args.outputs.now c.rules.ensures.rules c.requires.roots c.requires.one_name
 
 pub returns-clause-lets : goal.returns-clause-lets
@@ -54,5 +54,5 @@ returns-clause-lets c =
     let roots = c.args.roots.now in
     let marks : (place : ℕ) → place < length ns → (slice_index_or c.deref.result.now place false ≡ true) ↔ IsReached ns roots place =
     subst (λ ms. (place : ℕ) → place < length ns → (slice_index_or ms place false ≡ true) ↔ IsReached ns roots place) (sym c.deref.ensures.value) c.in_ok-marks.ensures.marks in
-    let is : c.new.result ≡ extracted ns roots c.args.inputs.now c.args.outputs.now = c.new.ensures ∙ written_is ns roots c.deref.result.now c.deref-2.result.now c.args.inputs.now _ c.args.outputs.now _ _ c.rules.ensures.rules c.requires.roots marks c.in_ok-lets.ensures.lets (c.deref-2.ensures.value ∙ c.in_ok-lets.ensures.numbers) c.in_ok-bindings.ensures.outputs c.in_ok-names.ensures.copies in
+    let is : c.new.result ≡ extracted ns roots c.args.inputs.now c.args.outputs.now = c.new.ensures ∙ written_is ns roots c.deref.result.now c.deref-2.result.now c.args.inputs.now _ c.args.outputs.now _ _ c.rules.ensures.rules c.requires.roots marks c.in_ok-lets.ensures.lets (c.deref-2.ensures.value ∙ c.in_ok-lets.ensures.numbers) c.in_ok-bindings.ensures.outputs c.in_ok-names.ensures in
     ap (λ (n : Net). length n.lets) is ∙ extracted_lets ns roots c.rules.ensures.rules c.requires.roots

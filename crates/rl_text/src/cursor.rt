@@ -1,0 +1,156 @@
+//! The lines of a text, one after the other.
+ghost use Rattle.std.specs.Prelude.{◌≡◌, ◌≤◌, ◌<◌, ◌^◌, ◌+◌, ℕ, option_map, List, length, MatchOption, IfOk};
+ghost use Rattle.rl_text.specs.declared.token.Token.{Token};
+ghost use Rattle.rl_text.specs.declared.token.Style.TheVariants as style;
+ghost use Rattle.rl_text.specs.Tokens.{AreTokens, IsBad};
+ghost use Rattle.rl_text.specs.Lines.{Line, lines};
+ghost use Rattle.rl_text.specs.Lines as spec_lines;
+ghost use Rattle.rl_text.specs.Words.{word, words};
+ghost use Rattle.rl_text.specs.Cursor.{HasTokens, lines_left, words_left, line_first, GivesWord, GivesLine};
+
+use crate::cut::ends_line;
+use crate::front::front;
+use crate::token::Style;
+use crate::words::Word;
+use rl_time::NoMemory;
+use std::alloc::Global;
+use std::marker::Model;
+
+/// The first place of a text of at most 67,108,864 bytes at which there is no token, gap or comment of the style. It
+/// takes no memory. `None` where the text has tokens.
+pub fn first_bad(text: &[u8], style: Style) -> Option<u32>
+    requires { length text.now ≤ 67108864 }
+    ensures bad { MatchOption result (HasTokens style text.now) (λ place. IsBad style text.now place) }
+{
+    let mut rest = text;
+    let mut at: u32 = 0;
+    while !rest.is_empty() {
+        let Some((_, len)) = front(rest, style) else {
+            return Some(at);
+        };
+        let (_, after) = rest.split_at(len);
+        rest = after;
+        at += len as u32;
+    }
+    None
+}
+
+/// What is left of a text of style Race, seen as the lines that are still to come. They end where a place has no piece.
+#[derive(Debug, Drop)]
+pub struct Lines<'a> {
+    rest: &'a [u8],
+    line: u32,
+}
+
+impl<'a> Model for Lines<'a> {
+    ghost Value = { List Line };
+
+    ghost view = { λ c. lines_left c.line c.rest.now };
+
+    ghost invariant = { λ c. c.line + length c.rest.now < 2 ^ 32 };
+}
+
+impl<'a> Lines<'a> {
+    /// The lines of a text of at most 67,108,864 bytes.
+    pub fn new(text: &'a [u8]) -> Lines<'a>
+        requires { length text.now ≤ 67108864 }
+        ensures lines { (tokens : List Token) → AreTokens style.Race text.now tokens → result ≡ lines text.now tokens }
+        ensures few { length result ≤ length text.now }
+    {
+        Lines {
+            rest: text,
+            line: 1,
+        }
+    }
+
+    /// The number and the words of the next line that has some. It takes no memory. `None` after the last.
+    pub fn next(&mut self) -> Option<(u32, LineWords<'a>)>
+        ensures { GivesLine self.old result self.new }
+    {
+        let mut rest = self.rest;
+        let mut number = self.line;
+        while !rest.is_empty() {
+            let after = after_line(rest);
+            let mut words = LineWords { rest };
+            if words.next().is_some() {
+                self.rest = after;
+                self.line = number + 1;
+                return Some((number, LineWords { rest }));
+            }
+            rest = after;
+            number += 1;
+        }
+        self.rest = rest;
+        self.line = number;
+        None
+    }
+}
+
+/// The words of a line, seen as those that are still to come.
+#[derive(Debug, Drop)]
+pub struct LineWords<'a> {
+    rest: &'a [u8],
+}
+
+impl<'a> Model for LineWords<'a> {
+    ghost Value = { List spec_lines.Word };
+
+    ghost view = { λ w. words_left w.rest.now };
+
+    ghost invariant = { λ w. length w.rest.now < 2 ^ 32 };
+}
+
+impl<'a> LineWords<'a> {
+    /// The next word of the line. `None` after the last.
+    pub fn next(&mut self) -> Option<Word<'a>>
+        ensures { GivesWord self.old (option_map word result) self.new }
+    {
+        let mut rest = self.rest;
+        while let Some((kind, len)) = front(rest, Style::Race) {
+            let (bytes, after) = rest.split_at(len);
+            if let Some(kind) = kind {
+                if ends_line(kind) {
+                    self.rest = rest;
+                    return None;
+                }
+                self.rest = after;
+                return Some(Word { kind, bytes });
+            }
+            rest = after;
+        }
+        self.rest = rest;
+        None
+    }
+
+    /// All the words of the line.
+    pub fn collect(self, alloc: Global) -> Result<Vec<Word<'a>>, NoMemory>
+        ensures { IfOk result (λ all. words all.items ≡ self.entry) }
+    {
+        let mut rest = self;
+        let mut all = Vec::new(alloc);
+        while let Some(word) = rest.next() {
+            all.push(word)?;
+        }
+        Ok(all)
+    }
+}
+
+/// What follows the line that a text begins with. Nothing, where the line has a place at which no piece is.
+fn after_line(text: &[u8]) -> &[u8]
+    requires few { length text.now < 2 ^ 32 }
+    requires some { 0 < length text.now }
+    ensures lines { (n : ℕ) → lines_left n text.now ≡ line_first n (words_left text.now) result.now }
+    ensures shorter { length result.now < length text.now }
+{
+    let mut rest = text;
+    while let Some((kind, len)) = front(rest, Style::Race) {
+        let (_, after) = rest.split_at(len);
+        rest = after;
+        if let Some(kind) = kind {
+            if ends_line(kind) {
+                return rest;
+            }
+        }
+    }
+    &[]
+}
