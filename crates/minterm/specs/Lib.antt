@@ -1,4 +1,3 @@
 pub mod Minterms
 pub mod Room
 pub mod Steps
-pub mod Samples

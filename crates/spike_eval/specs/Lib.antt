@@ -2,4 +2,3 @@ pub mod Early
 pub mod Room
 pub mod Causal
 pub mod Outputs
-pub mod Samples

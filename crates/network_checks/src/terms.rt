@@ -1,31 +1,15 @@
+//! Terms in a store, and networks written of them.
 ghost use Rattle.std.specs.Prelude.{◌≡◌, IfOk};
 ghost use Rattle.net_lang.specs.Rules.{names_of};
 
-use crate::laws::{network_names_are_ports, network_terms_are_few};
-use crate::node::{Node, StoreError, Term};
-use crate::reach::reached;
-use crate::store::Store;
+use crate::texts::chain;
 use net_lang::{Name, Network, print_network, read_network};
 use rl_time::NoMemory;
 use std::alloc::Global;
-use std::process::Abort;
 use std::test::Fail;
-
-// A network of lets p0 = min(inc(a, 1), a), p1 = min(inc(p0, 1), p0) and so on, and the last as output.
-fn chain(rt: &impl Abort, alloc: Global, lets: u32) -> Result<Network, Fail> {
-    let mut text = Vec::new(alloc);
-    text.extend_from_slice(b"racenet 1\ninput a\nlet p0 = min(inc(a, 1), a)\n")?;
-    let mut last = 0u32;
-    for next in 1..lets {
-        let line = format!(in alloc; "let p{next} = min(inc(p{last}, 1), p{last})\n")?;
-        text.extend_from_slice(line.as_bytes())?;
-        last = next;
-    }
-    let line = format!(in alloc; "output y = p{last}\n")?;
-    text.extend_from_slice(line.as_bytes())?;
-    assert!(rt; text.len() <= 1048576);
-    Ok(read_network(alloc, &text)?)
-}
+use term_store::{
+    Node, Store, StoreError, Term, network_names_are_ports, network_terms_are_few, reached,
+};
 
 #[test]
 fn a_held_node_has_its_place(rt: HostRuntime) -> Result<(), Fail> {
