@@ -9,8 +9,6 @@ mod checking;
 mod fault;
 mod laws;
 mod tabulation;
-#[cfg(test)]
-mod tests;
 
 pub use checking::check_rows;
 pub use fault::{RowFault, TabError};

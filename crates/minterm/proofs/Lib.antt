@@ -7,5 +7,4 @@ pub mod Entries
 pub mod Rows
 pub mod FewTerms
 pub mod TableBits
-pub mod Sampled
 pub mod Ports

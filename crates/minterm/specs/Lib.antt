@@ -1,3 +1,2 @@
 pub mod Minterms
 pub mod Steps
-pub mod Samples

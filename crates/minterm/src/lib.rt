@@ -9,8 +9,6 @@ mod laws;
 mod planting;
 mod row;
 mod synthesis;
-#[cfg(test)]
-mod tests;
 
 pub use laws::{table_names_are_ports, table_terms_are_few, the_term_has_the_tables_values};
 pub use synthesis::synth;

@@ -3,4 +3,3 @@ pub mod Agreement
 pub mod Causality
 pub mod Invariance
 pub mod Numbers
-pub mod Sampled

@@ -1,4 +1,3 @@
 pub mod Room
 pub mod Causal
 pub mod Outputs
-pub mod Samples

@@ -8,8 +8,6 @@
 
 mod evaluation;
 mod laws;
-#[cfg(test)]
-mod tests;
 
 pub use evaluation::eval;
 pub use laws::{numbers_decide, outputs_are_causal, outputs_are_invariant};

@@ -11,8 +11,6 @@ mod place_laws;
 mod putting;
 mod reach;
 mod store;
-#[cfg(test)]
-mod tests;
 
 pub use laws::{
     network_names_are_ports, network_terms_are_few, no_two_places_alike, reached_places,

@@ -1,79 +1,34 @@
-//! Tables whose nodes are known from elsewhere.
-ghost use Rattle.std.specs.Prelude.{◌≡◌, ◌≤◌, [], ◌∷◌, Some, codes, length, replicate, IfOk};
-ghost use Rattle.func_table.specs.Rules.{IsTable};
-ghost use Rattle.func_table.specs.Samples.{row, of_two};
+//! The terms of tables.
+ghost use Rattle.std.specs.Prelude.{◌≡◌, ◌≤◌, [], ◌∷◌, length, IfOk};
 ghost use Rattle.func_table.specs.Sound.{AreSound};
-ghost use Rattle.minterm.specs.Samples.{closed_row, open_row, late_row, wide_row, wide_rows, letters, wide_table};
 
-use crate::laws::table_names_are_ports;
-use crate::synthesis::synth;
-use func_table::{Name, Row, Table};
-use net_model::print_network;
+use crate::texts::table_of_two;
+use causality::check_rows;
+use func_table::{Name, Table, read_table};
+use minterm::{synth, table_names_are_ports};
+use net_lang::print_network;
 use rl_time::NoMemory;
 use std::alloc::Global;
 use std::process::Abort;
 use std::test::Fail;
 use term_store::{Node, Store, Term};
 
-fn two_inputs(alloc: Global) -> Result<Vec<Name>, NoMemory>
-    ensures { IfOk result (λ names. names.items ≡ codes "a" ∷ codes "b" ∷ []) }
+/// The table of a text, if its rows are sound.
+fn sound_table(alloc: Global, text: &[u8]) -> Result<Table, Fail>
+    requires { length text.now ≤ 1048576 }
+    ensures { IfOk result (λ table. AreSound table.rows) }
 {
-    let mut names = Vec::new(alloc);
-    names.push(Name::new(alloc, b"a")?)?;
-    names.push(Name::new(alloc, b"b")?)?;
-    Ok(names)
+    let table = read_table(alloc, text)?;
+    check_rows(&table)?;
+    Ok(table)
 }
 
-fn row_of(alloc: Global, a: Option<u8>, b: Option<u8>, out: u8) -> Result<Row, NoMemory>
-    ensures { IfOk result (λ r. r ≡ row (a ∷ b ∷ []) out) }
+/// A table of these rows of two inputs.
+fn of_two(rt: &impl Abort, alloc: Global, rows: &[u8]) -> Result<Table, Fail>
+    ensures { IfOk result (λ table. AreSound table.rows) }
 {
-    let mut entries = Vec::new(alloc);
-    entries.push(a)?;
-    entries.push(b)?;
-    Ok(Row::new(entries, out))
-}
-
-fn table_of(alloc: Global, rows: Vec<Row>) -> Result<Table, NoMemory>
-    requires { IsTable (of_two rows.items) }
-    ensures { IfOk result (λ t. t ≡ of_two rows.items) }
-{
-    let inputs = two_inputs(alloc)?;
-    let output = Name::new(alloc, b"y")?;
-    Ok(Table::new(inputs, output, rows))
-}
-
-fn empty_table(alloc: Global) -> Result<Table, NoMemory>
-    ensures { IfOk result (λ t. t ≡ of_two []) }
-{
-    table_of(alloc, Vec::new(alloc))
-}
-
-/// `0 3 -> 5`
-fn closed_table(alloc: Global) -> Result<Table, NoMemory>
-    ensures { IfOk result (λ t. t ≡ of_two (closed_row ∷ [])) }
-{
-    let mut rows = Vec::new(alloc);
-    rows.push(row_of(alloc, Some(0), Some(3), 5)?)?;
-    table_of(alloc, rows)
-}
-
-/// `0 - -> 2`
-fn open_table(alloc: Global) -> Result<Table, NoMemory>
-    ensures { IfOk result (λ t. t ≡ of_two (open_row ∷ [])) }
-{
-    let mut rows = Vec::new(alloc);
-    rows.push(row_of(alloc, Some(0), None, 2)?)?;
-    table_of(alloc, rows)
-}
-
-/// `0 3 -> 5` and `1 0 -> 4`
-fn two_table(alloc: Global) -> Result<Table, NoMemory>
-    ensures { IfOk result (λ t. t ≡ of_two (closed_row ∷ late_row ∷ [])) }
-{
-    let mut rows = Vec::new(alloc);
-    rows.push(row_of(alloc, Some(0), Some(3), 5)?)?;
-    rows.push(row_of(alloc, Some(1), Some(0), 4)?)?;
-    table_of(alloc, rows)
+    let text = table_of_two(rt, alloc, rows)?;
+    sound_table(alloc, &text)
 }
 
 fn check_nodes(rt: &impl Abort, store: &Store, nodes: &[Node]) {
@@ -85,7 +40,7 @@ fn check_nodes(rt: &impl Abort, store: &Store, nodes: &[Node]) {
 
 #[test]
 fn no_rows_are_never(rt: HostRuntime) -> Result<(), Fail> {
-    let table = empty_table(rt.alloc())?;
+    let table = of_two(&rt, rt.alloc(), b"")?;
     let mut store = Store::new(rt.alloc())?;
     let place = synth(rt.alloc(), &table, &mut store)?;
     assert_eq!(rt; place, Term(2));
@@ -95,7 +50,7 @@ fn no_rows_are_never(rt: HostRuntime) -> Result<(), Fail> {
 
 #[test]
 fn numbers_come_at_once(rt: HostRuntime) -> Result<(), Fail> {
-    let table = closed_table(rt.alloc())?;
+    let table = of_two(&rt, rt.alloc(), b"0 3 -> 5\n")?;
     let mut store = Store::new(rt.alloc())?;
     let place = synth(rt.alloc(), &table, &mut store)?;
     assert_eq!(rt; place, Term(7));
@@ -115,7 +70,7 @@ fn numbers_come_at_once(rt: HostRuntime) -> Result<(), Fail> {
 
 #[test]
 fn what_a_store_holds_stays(rt: HostRuntime) -> Result<(), Fail> {
-    let table = open_table(rt.alloc())?;
+    let table = of_two(&rt, rt.alloc(), b"0 - -> 2\n")?;
     let mut store = Store::new(rt.alloc())?;
     store.intern(Node::Never)?;
     store.intern(Node::Input(1))?;
@@ -136,7 +91,7 @@ fn what_a_store_holds_stays(rt: HostRuntime) -> Result<(), Fail> {
 
 #[test]
 fn rows_are_joined_at_the_end(rt: HostRuntime) -> Result<(), Fail> {
-    let table = two_table(rt.alloc())?;
+    let table = of_two(&rt, rt.alloc(), b"0 3 -> 5\n1 0 -> 4\n")?;
     let mut store = Store::new(rt.alloc())?;
     let place = synth(rt.alloc(), &table, &mut store)?;
     assert_eq!(rt; place, Term(14));
@@ -171,7 +126,7 @@ fn output_name(alloc: Global, table: &Table) -> Result<Vec<Name>, NoMemory>
 
 #[test]
 fn a_term_is_written_as_a_network(rt: HostRuntime) -> Result<(), Fail> {
-    let table = open_table(rt.alloc())?;
+    let table = of_two(&rt, rt.alloc(), b"0 - -> 2\n")?;
     let mut store = Store::new(rt.alloc())?;
     let place = synth(rt.alloc(), &table, &mut store)?;
     let outputs = output_name(rt.alloc(), &table)?;
@@ -184,49 +139,27 @@ fn a_term_is_written_as_a_network(rt: HostRuntime) -> Result<(), Fail> {
     Ok(())
 }
 
-fn sixteen_inputs(alloc: Global) -> Result<Vec<Name>, NoMemory>
-    ensures { IfOk result (λ names. names.items ≡ letters 16) }
-{
-    let mut names = Vec::new(alloc);
-    for input in 0..16 {
-        names.push(Name::new(alloc, &[b'a' + input])?)?;
-    }
-    Ok(names)
-}
-
-fn wide_row(alloc: Global, second: u8) -> Result<Row, NoMemory>
-    ensures { IfOk result (λ r. r ≡ wide_row second) }
-{
-    let mut entries = vec![in alloc; Some(0); 16]?;
-    entries[1] = Some(second);
-    Ok(Row::new(entries, 255))
-}
-
-fn wide_rows(alloc: Global) -> Result<Vec<Row>, NoMemory>
-    ensures { IfOk result (λ rows. rows.items ≡ wide_rows 256) }
-{
-    let mut rows = Vec::new(alloc);
-    for second in 0..256u32 {
-        rows.push(wide_row(alloc, second as u8)?)?;
-    }
-    Ok(rows)
-}
-
 /// The rows `0 k 0 0 .. -> 255` for each k.
-fn full_table(alloc: Global) -> Result<Table, NoMemory>
-    ensures { IfOk result (λ t. t ≡ wide_table (wide_rows 256)) }
+fn full_table(rt: &impl Abort, alloc: Global) -> Result<Table, Fail>
+    ensures { IfOk result (λ table. AreSound table.rows) }
 {
-    let rows = wide_rows(alloc)?;
-    let inputs = sixteen_inputs(alloc)?;
-    let output = Name::new(alloc, b"y")?;
-    Ok(Table::new(inputs, output, rows))
+    let mut text = Vec::from_slice(
+        alloc,
+        b"racetable 1\ninputs a b c d e f g h i j k l m n o p\noutput y\n",
+    )?;
+    for second in 0..256u32 {
+        let row = format!(in alloc; "0 {second} 0 0 0 0 0 0 0 0 0 0 0 0 0 0 -> 255\n")?;
+        text.extend_from_slice(row.as_bytes())?;
+    }
+    assert!(rt; text.len() <= 1048576);
+    sound_table(alloc, &text)
 }
 
 // 16 inputs, 15 + 255 delays of inputs, in each row 15 joins by max and as many by min, an inc and an
 // lt, and 255 joins of the rows.
 #[test]
 fn the_greatest_table_has_room(rt: HostRuntime) -> Result<(), Fail> {
-    let table = full_table(rt.alloc())?;
+    let table = full_table(&rt, rt.alloc())?;
     let mut store = Store::new(rt.alloc())?;
     let place = synth(rt.alloc(), &table, &mut store)?;
     assert_eq!(rt; (store.len(), place), (8733, Term(8732)));

@@ -1,29 +1,45 @@
-//! Networks in a store, by their texts.
+//! Terms in a store, and networks written of them.
 ghost use Rattle.std.specs.Prelude.{◌≡◌, IfOk};
 ghost use Rattle.net_model.specs.Rules.{names_of};
 
-use net_lang::read_network;
-use net_model::{Name, Network, print_network};
+use crate::texts::chain;
+use net_lang::{Name, Network, print_network, read_network};
 use rl_time::NoMemory;
 use std::alloc::Global;
-use std::process::Abort;
 use std::test::Fail;
-use term_store::{Store, Term, network_names_are_ports, network_terms_are_few, reached};
+use term_store::{
+    Node, Store, StoreError, Term, network_names_are_ports, network_terms_are_few, reached,
+};
 
-// A network of lets p0 = min(inc(a, 1), a), p1 = min(inc(p0, 1), p0) and so on, and the last as output.
-fn chain(rt: &impl Abort, alloc: Global, lets: u32) -> Result<Network, Fail> {
-    let mut text = Vec::new(alloc);
-    text.extend_from_slice(b"racenet 1\ninput a\nlet p0 = min(inc(a, 1), a)\n")?;
-    let mut last = 0u32;
-    for next in 1..lets {
-        let line = format!(in alloc; "let p{next} = min(inc(p{last}, 1), p{last})\n")?;
-        text.extend_from_slice(line.as_bytes())?;
-        last = next;
+#[test]
+fn a_held_node_has_its_place(rt: HostRuntime) -> Result<(), Fail> {
+    let mut store = Store::new(rt.alloc())?;
+    let a = store.intern(Node::Input(0))?;
+    let b = store.intern(Node::Input(1))?;
+    assert!(rt; a.0 < store.len());
+    let min = store.intern(Node::Min(a, b))?;
+    assert!(rt; a.0 < store.len());
+    assert!(rt; b.0 < store.len());
+    let again = store.intern(Node::Min(a, b))?;
+    assert_eq!(rt; (a, b, min, again), (Term(0), Term(1), Term(2), Term(2)));
+    assert_eq!(rt; store.len(), 3);
+    Ok(())
+}
+
+#[test]
+fn a_full_store_answers_for_what_it_holds(rt: HostRuntime) -> Result<(), Fail> {
+    let mut store = Store::new(rt.alloc())?;
+    let a = store.intern(Node::Input(0))?;
+    for cycles in 1..262144 {
+        assert!(rt; a.0 < store.len());
+        let place = store.intern(Node::Inc(a, cycles))?;
+        assert_eq!(rt; place, Term(cycles));
     }
-    let line = format!(in alloc; "output y = p{last}\n")?;
-    text.extend_from_slice(line.as_bytes())?;
-    assert!(rt; text.len() <= 1048576);
-    Ok(read_network(alloc, &text)?)
+    assert!(rt; a.0 < store.len());
+    assert_eq!(rt; store.intern(Node::Inc(a, 262144)), Err(StoreError::Full));
+    assert!(rt; a.0 < store.len());
+    assert_eq!(rt; store.intern(Node::Inc(a, 1)), Ok(Term(1)));
+    Ok(())
 }
 
 #[test]
@@ -58,7 +74,7 @@ fn output_names(alloc: Global, n: &Network) -> Result<Vec<Name>, NoMemory>
 {
     let mut names = Vec::new(alloc);
     for output in n.outputs() {
-        names.push(output.name().copy(alloc)?)?;
+        names.push(Name::new(alloc, output.name().bytes())?)?;
     }
     Ok(names)
 }

@@ -1,9 +1,8 @@
-//! Tables and networks whose verdicts are known from elsewhere.
+//! Soundness of rows, and the tables of networks.
 ghost use Rattle.std.specs.Prelude.{◌≤◌, length};
 
-use crate::checking::check_rows;
-use crate::fault::{RowFault, TabError};
-use crate::tabulation::tabulate;
+use crate::texts::table_of_two;
+use causality::{RowFault, TabError, check_rows, tabulate};
 use func_table::{print_table, read_table};
 use net_lang::read_network;
 use std::alloc::Global;
@@ -30,9 +29,7 @@ fn check_two(
     rows: &[u8],
     wanted: Result<(), RowFault>,
 ) -> Result<(), Fail> {
-    let mut text = Vec::from_slice(alloc, b"racetable 1\ninputs a b\noutput y\n")?;
-    text.extend_from_slice(rows)?;
-    assert!(rt; text.len() <= 1048576);
+    let text = table_of_two(rt, alloc, rows)?;
     check_verdict(rt, alloc, &text, wanted)
 }
 

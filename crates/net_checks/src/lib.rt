@@ -1,5 +1,0 @@
-//! Tests of stores that read networks: no crate depends on this one.
-#![tactic(auto)]
-
-#[cfg(test)]
-mod stores;

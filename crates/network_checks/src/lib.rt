@@ -1,0 +1,13 @@
+//! Tests of the public calls on networks, tables and terms, against answers known from elsewhere. It has no code of its own.
+#![tactic(auto)]
+
+#[cfg(test)]
+mod rows;
+#[cfg(test)]
+mod synthesis;
+#[cfg(test)]
+mod terms;
+#[cfg(test)]
+mod texts;
+#[cfg(test)]
+mod values;
