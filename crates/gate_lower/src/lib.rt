@@ -17,6 +17,3 @@ pub use emitting::emit;
 pub use gates::{Delay, Gate, Gates, Line, OutLine};
 pub use lowering::{LowerError, lower};
 pub use networks::lower_network;
-
-#[cfg(test)]
-mod tests;

@@ -1,6 +1,8 @@
-//! Tests of the public calls on networks, tables and terms, against answers known from elsewhere. It has no code of its own.
+//! Tests of the public calls on networks, tables, terms and gates, against answers known from elsewhere. It has no code of its own.
 #![tactic(auto)]
 
+#[cfg(test)]
+mod modules;
 #[cfg(test)]
 mod rows;
 #[cfg(test)]
