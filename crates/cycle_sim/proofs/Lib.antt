@@ -1,4 +1,12 @@
 pub mod Edges
-pub mod Passes
 pub mod Histories
 pub mod Grown
+pub mod Bits
+pub mod Seen
+pub mod Activated
+pub mod Listed
+pub mod Shifting
+pub mod Recording
+pub mod Quiet
+pub mod Words
+pub mod Counting

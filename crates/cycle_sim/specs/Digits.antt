@@ -13,7 +13,7 @@ digit true = 49
 abbrev pub output_digits : List State → ℕ → List ℕ
 output_digits states out = map (λ s. digit (slice_index_or s.outs out false)) states
 
--- the digits of so many outputs, in order
+-- the digits of the first outputs, in order
 abbrev pub output_rows : ℕ → List State → List (List ℕ)
 output_rows outputs states = map (output_digits states) (range_with_len 0 outputs)
 

@@ -3,3 +3,9 @@ pub mod Levels
 pub mod Ready
 pub mod Code
 pub mod Digits
+pub mod Marked
+pub mod Operands
+pub mod UpToDate
+pub mod Shifts
+pub mod Recorded
+pub mod Rows

@@ -1,9 +1,9 @@
--- A simulation: where it stands, its steps, and the histories that they make.
+-- A simulation: the cycle that it is in, its steps, and the histories that they make.
 use Rattle.std.specs.Prelude.{◌≡◌, ℕ, Bool, false, List, [], ◌∷◌, ◌++◌, slice_index_or, Option, Some, None}
 use Rattle.circuit.specs.Circuit.{Circuit}
 use Rattle.circuit.specs.Meaning.{State, IsStart, IsNext, IsHistory}
 
--- A module, and the state of the cycle in which its simulation stands: none before cycle 0.
+-- A module, and the state of the cycle that its simulation is in: none before cycle 0.
 pub record Standing : Type 0 where
   pub circuit : Circuit
   pub state : Option State

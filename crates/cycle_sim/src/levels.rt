@@ -1,11 +1,11 @@
-ghost use Rattle.std.specs.Prelude.{◌≡◌, ◌<◌, Bool, false, [], List, length, map, replicate, slice_index_or, IfOk};
+ghost use Rattle.std.specs.Prelude.{◌≡◌, ◌<◌, ◌≤◌, ◌∷◌, ℕ, Bool, true, false, [], List, length, map, replicate, slice_index_or, slice_set, IfOk};
 ghost use Rattle.circuit.specs.Meaning as spec;
 ghost use Rattle.circuit.specs.Meaning.{State, HasLevels, IsSettled, rows_after, row_at_start};
 ghost use Rattle.circuit.specs.View.{logic};
-ghost use Rattle.cycle_sim.specs.Levels.{HasAllLevels, HaveWidths, HasPlace, all_shifted};
+ghost use Rattle.cycle_sim.specs.Levels.{HasAllLevels, HasPlace, shifted};
 
-use crate::row::{Row, all_low, read, shift_rows};
-use circuit::{Bit, Module, Reg, Target, laws};
+use crate::row::{Row, all_low, read};
+use circuit::{Bit, Module, Reg, Target};
 use rl_time::NoMemory;
 use std::alloc::Global;
 use std::marker::Model;
@@ -69,8 +69,8 @@ impl Levels {
         }
     }
 
-    // The level of an expression.
-    fn level(&self, bit: &Bit) -> bool
+    /// The level of an expression.
+    pub fn level(&self, bit: &Bit) -> bool
         ensures { result ≡ spec.level self.now (logic bit.now) }
     {
         match bit {
@@ -85,8 +85,8 @@ impl Levels {
         }
     }
 
-    // Gives a wire or an output this level.
-    fn put(&mut self, target: Target, level: bool)
+    /// Gives a wire or an output this level.
+    pub fn put(&mut self, target: Target, level: bool)
         requires { HasPlace self.old target }
         ensures { self.new ≡ spec.put self.old target level }
     {
@@ -96,55 +96,63 @@ impl Levels {
         }
     }
 
-    /// Gives the inputs these levels.
-    pub fn set_inputs(&mut self, inputs: &[bool])
-        requires { length inputs.now ≡ length self.old.inputs }
-        ensures { self.new ≡ record self.old { inputs = inputs.now } }
+    /// The level of a wire or an output.
+    pub fn at(&self, target: Target) -> bool
+        ensures { result ≡ spec.at self.now target }
     {
-        self.inputs.copy_from_slice(inputs);
-    }
-
-    /// Gives each wire and output its expression's level. One pass is enough, since the assigns are in order.
-    pub fn settle(&mut self, m: &Module)
-        requires { HasLevels m.now self.old }
-        ensures settled { IsSettled m.now self.new }
-        ensures inputs { self.new.inputs ≡ self.old.inputs }
-        ensures regs { self.new.regs ≡ self.old.regs }
-    {
-        m.rules();
-        laws::settles_in_order();
-        for assign in m.assigns() {
-            let level = self.level(assign.bit());
-            self.put(assign.target(), level);
+        match target {
+            Target::Wire(place) => read(&self.wires, place),
+            Target::Out(place) => read(&self.outs, place),
         }
     }
 
-    // Puts the level of each register's `next` into this room.
-    fn next_levels(&self, regs: &[Reg], next: &mut [bool])
-        requires { length next.old ≡ length regs.now }
-        ensures { next.new ≡ map (λ r. spec.level self.now r.next) regs.now }
+    /// Whether the inputs have these levels.
+    pub fn has_inputs(&self, inputs: &[bool]) -> bool
+        ensures { result ≡ true → inputs.now ≡ self.now.inputs }
     {
-        for (place, reg) in regs.iter().enumerate() {
-            next[place] = self.level(reg.next());
-        }
+        inputs == self.inputs.as_slice()
     }
 
-    // Each register takes its first level.
-    fn shift_regs(&mut self, firsts: &[bool])
-        requires { length firsts.now ≡ length self.old.regs }
-        ensures { self.new ≡ record self.old { regs = all_shifted firsts.now self.old.regs } }
+    /// The level of an input.
+    pub fn input(&self, place: usize) -> bool
+        requires { place < length self.now.inputs }
+        ensures { result ≡ slice_index_or self.now.inputs place false }
     {
-        shift_rows(self.regs.as_mut_slice(), firsts);
+        self.inputs[place]
     }
 
-    /// A clock edge: all registers take the level of their `next` at once, as it was before the edge. `next` is
-    /// room for these levels.
-    pub fn clock_edge(&mut self, m: &Module, next: &mut [bool])
-        requires widths { HaveWidths m.now.regs self.old.regs }
-        requires room { length next.old ≡ length m.now.regs }
-        ensures { self.new ≡ record self.old { regs = rows_after self.old m.now.regs self.old.regs } }
+    /// Gives an input this level.
+    pub fn set_input(&mut self, place: usize, level: bool)
+        requires { place < length self.old.inputs }
+        ensures { self.new ≡ record self.old { inputs = slice_set self.old.inputs place level } }
     {
-        self.next_levels(m.regs(), next);
-        self.shift_regs(next);
+        self.inputs[place] = level;
+    }
+
+    /// How many bits a register has.
+    pub fn width(&self, reg: usize) -> u32
+        requires { reg < length self.now.regs }
+        ensures { result ≡ length (slice_index_or self.now.regs reg []) }
+    {
+        self.regs[reg].width()
+    }
+
+    /// The first bit of a register from this one on that a shift changes, if bit 0 takes this level.
+    pub fn change(&self, reg: usize, first: bool, from: usize) -> usize
+        requires { reg < length self.now.regs }
+        ensures low { from ≤ result }
+        ensures none { let row = slice_index_or self.now.regs reg [] in (j : ℕ) → from ≤ j → j < result → j < length row →
+            slice_index_or (first ∷ row) j false ≡ slice_index_or row j false }
+    {
+        self.regs[reg].change(first, from)
+    }
+
+    /// A register takes this level.
+    pub fn shift(&mut self, reg: usize, first: bool)
+        requires { reg < length self.old.regs }
+        ensures { let row = slice_index_or self.old.regs reg [] in
+            self.new ≡ record self.old { regs = slice_set self.old.regs reg (shifted first row) } }
+    {
+        self.regs[reg].shift(first);
     }
 }

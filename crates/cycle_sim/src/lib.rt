@@ -1,12 +1,18 @@
-//! A cycle simulator of modules: the levels of a module, one clock cycle after another.
+//! A cycle simulator of modules: the levels of a module, one clock cycle after another. It works only where levels change.
 //!
 //! `NoMemory` is answered where memory ran out.
 #![tactic(auto)]
 
+mod edge;
+mod inputs;
 pub mod laws;
 mod levels;
+mod marks;
+mod readers;
+mod readers_of;
 mod row;
 mod running;
+mod settle;
 mod sim;
 
 pub use running::simulate;

@@ -15,7 +15,7 @@ use std::alloc::Global;
 /// stays high: for each output in order one digit `0` or `1` a cycle, from cycle 0 on. There is one time for each
 /// input.
 ///
-/// It takes all its memory before cycle 0, and time in proportion to the module and the number of cycles.
+/// It takes all its memory before cycle 0, and time in proportion to the module, to the levels that change, and to the digits.
 pub fn simulate(
     alloc: Global,
     m: &Module,
@@ -40,7 +40,7 @@ pub fn simulate(
     Ok(rows)
 }
 
-/// So many empty rows, each with room for a digit a cycle.
+/// `count` empty rows, each with room for a digit a cycle.
 fn empty_rows(alloc: Global, count: usize, cycles: usize) -> Result<Vec<Vec<u8>>, NoMemory>
     ensures empty { IfOk result (λ rows. map (λ row. row.items) rows.items ≡ replicate count []) }
     ensures capacity { IfOk result (λ rows. map (λ row. vec_capacity row) rows.items ≡ replicate count cycles) }

@@ -1,22 +1,36 @@
-ghost use Rattle.std.specs.Prelude.{◌≡◌, ◌<◌, length, IfOk, None, IsSome};
+ghost use Rattle.std.specs.Prelude.{◌≡◌, ◌<◌, ◌≤◌, ◌+◌, ℕ, true, length, IfOk, Some, None, IsSome};
+ghost use Rattle.circuit.specs.Meaning.{State, IsNext};
 ghost use Rattle.cycle_sim.specs.Standing.{IsStep, output_level};
+ghost use Rattle.cycle_sim.specs.Marked.{IsUnmarked};
 
+use crate::edge::clock_edge;
+use crate::inputs::set_inputs;
 use crate::levels::Levels;
+use crate::marks::Marks;
+use crate::readers::Readers;
+use crate::readers_of::readers_of;
 use crate::row::all_low;
+use crate::settle::settle;
 use circuit::Module;
 use rl_time::NoMemory;
 use std::alloc::Global;
 use std::marker::Model;
 
-/// A simulation of a module. It stands before cycle 0, or in a cycle, where all levels are settled.
+/// A simulation of a module. It is either not yet started, or in a cycle with all levels settled.
 ///
-/// `started` tells whether a step was made, and `next` is room for what the registers take at a clock edge.
+/// `started` is whether a step was made, and `quiet` that the next one changes nothing if the inputs don't. `marks` are the
+/// assigns and registers that may not be up to date.
+/// `moving` and `firsts` are room for the registers that change at a clock edge, and what they take.
 #[derive(Drop)]
 pub struct Sim<'a> {
     module: &'a Module,
     started: bool,
+    quiet: bool,
     levels: Levels,
-    next: Vec<bool>,
+    readers: Readers,
+    marks: Marks,
+    moving: Marks,
+    firsts: Vec<bool>,
 }
 
 impl<'a> Model for Sim<'a> {
@@ -31,7 +45,7 @@ impl<'a> Model for Sim<'a> {
 
     ghost view = { λ s. record { circuit = s.module.now; state = if s.started then Some s.levels else None } };
 
-    ghost invariant = { λ s. IsReady s.module.now s.started s.levels s.next.items };
+    ghost invariant = { λ s. IsReady s.module.now s.started s.quiet s.levels s.readers.starts.items s.readers.lists.items s.readers.tapped s.marks s.moving s.firsts.items };
 }
 
 impl<'a> Sim<'a> {
@@ -40,17 +54,36 @@ impl<'a> Sim<'a> {
         ensures same_module { IfOk result (λ sim. sim.circuit ≡ m.now) }
         ensures before_cycle_0 { IfOk result (λ sim. sim.state ≡ None) }
     {
+        few_items(m);
+        let assigns = m.assigns().len();
+        let regs = m.regs().len();
         Ok(Sim {
             module: m,
             started: false,
+            quiet: false,
             levels: Levels::low(alloc, m)?,
-            next: all_low(alloc, m.regs().len())?,
+            readers: readers_of(alloc, m)?,
+            marks: Marks::all(alloc, assigns + regs)?,
+            moving: Marks::none(alloc, regs)?,
+            firsts: all_low(alloc, regs)?,
         })
     }
 
     /// Goes to the next cycle, under one level for each input. The first step goes to cycle 0.
-    /// It takes no memory, and time in proportion to the module.
+    /// It takes no memory, and time in proportion to what changes, or to the inputs if nothing does.
     pub fn step(&mut self, inputs: &[bool])
+        requires { length inputs.now ≡ length self.old.circuit.inputs }
+        ensures same_module { self.new.circuit ≡ self.old.circuit }
+        ensures next_cycle { IsStep self.old.circuit self.old.state self.new.state inputs.now }
+        ensures in_a_cycle { IsSome self.new.state }
+    {
+        if !self.rests(inputs) {
+            self.advance(inputs);
+        }
+    }
+
+    // The same, and nothing is known of what changes.
+    fn advance(&mut self, inputs: &[bool])
         requires { length inputs.now ≡ length self.old.circuit.inputs }
         ensures same_module { self.new.circuit ≡ self.old.circuit }
         ensures next_cycle { IsStep self.old.circuit self.old.state self.new.state inputs.now }
@@ -58,11 +91,34 @@ impl<'a> Sim<'a> {
     {
         let m = self.module;
         if self.started {
-            self.levels.clock_edge(m, self.next.as_mut_slice());
+            clock_edge(
+                m,
+                &self.readers,
+                &mut self.levels,
+                &mut self.marks,
+                &mut self.moving,
+                self.firsts.as_mut_slice(),
+            );
         }
-        self.levels.set_inputs(inputs);
-        self.levels.settle(m);
+        set_inputs(m, &self.readers, &mut self.levels, &mut self.marks, inputs);
+        settle(m, &self.readers, &mut self.levels, &mut self.marks);
         self.started = true;
+        self.quiet = is_quiet(m, &self.marks);
+    }
+
+    // Whether the next cycle's state is this one's under these inputs, as far as is known.
+    fn rests(&self, inputs: &[bool]) -> bool
+        ensures next_cycle { result ≡ true → IsStep self.now.circuit self.now.state self.now.state inputs.now }
+        ensures in_a_cycle { result ≡ true → IsSome self.now.state }
+    {
+        self.quiet && self.levels.has_inputs(inputs)
+    }
+
+    /// Whether the next cycle's state is this one's, if the inputs keep their levels.
+    pub fn is_quiet(&self) -> bool
+        ensures { result ≡ true → (s : State) → self.now.state ≡ Some s → IsNext self.now.circuit s s s.inputs }
+    {
+        self.quiet
     }
 
     /// The level of an output in this cycle.
@@ -73,4 +129,20 @@ impl<'a> Sim<'a> {
     {
         self.levels.out(out)
     }
+}
+
+// Whether no register is marked.
+fn is_quiet(m: &Module, marks: &Marks) -> bool
+    ensures { result ≡ true → (r : ℕ) → r < length m.now.regs → IsUnmarked marks.now (length m.now.assigns + r) }
+{
+    let assigns = m.assigns().len();
+    let next = marks.first(assigns);
+    next >= assigns && next - assigns >= m.regs().len()
+}
+
+// A module has few assigns and registers.
+fn few_items(m: &Module)
+    ensures { length m.now.assigns + length m.now.regs ≤ 131136 }
+{
+    m.rules();
 }

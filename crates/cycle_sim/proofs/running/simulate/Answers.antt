@@ -1,7 +1,7 @@
 use Rattle.std.proofs.Common.{◌≡◌, ap, sym, ◌∙◌, arith, subst, map, false, length, vec_len, vec_capacity}
 use Rattle.std.proofs.lemmas.List.{length-map, length-replicate}
 use Rattle.circuit.specs.Circuit.{Circuit}
-use Rattle.circuit.specs.Meaning.{levels_at}
+use Rattle.circuit.specs.Meaning.{levels_at, levels_from, IsHistory}
 use Rattle.rl_time.specs.Time.{has_risen}
 use Rattle.cycle_sim.specs.Standing.{IsStep}
 use Rattle.cycle_sim.specs.Digits.{with_digits}
@@ -63,3 +63,10 @@ loop-cycle-preserved c =
     (λ us states inputs. c.histories_grow_at_the_end.ensures.grown m us states inputs c.loop-cycle.sim.state c.step.new.self.state)
     (c.levels_grow_at_the_end.ensures rises cycle) (levels_are ∙ set) c.step.ensures.same_module step
     (ap (λ z. map (λ row. row.items) z) rows_are ∙ digits) (ap (λ z. map (λ row. vec_capacity row) z) rows_are ∙ same)
+
+pub returns : goal.returns
+returns c =
+    let i = c.loop-cycle.invariant in
+    let m = c.args.m.now in
+    let e : c.loop-cycle.cycle ≡ c.args.cycles = omega (arith, c.loop-cycle-test.false) in
+    (i.states, subst (λ n. IsHistory m (levels_from c.args.rises.now 0 n) i.states) e i.ran.history, i.digits)

@@ -1,0 +1,139 @@
+ghost use Rattle.std.specs.Prelude.{◌≡◌, ◌≢◌, ◌⊎◌, ◌≤◌, ◌<◌, ◌+◌, ◌*◌, ◌∷◌, [], ℕ, false, length, replicate, slice_get, slice_index_or, slice_set, Some};
+ghost use Rattle.circuit.specs.Circuit.{Register};
+ghost use Rattle.circuit.specs.Meaning as spec;
+ghost use Rattle.circuit.specs.Meaning.{rows_after};
+ghost use Rattle.cycle_sim.specs.Levels.{HasAllLevels, shifted};
+ghost use Rattle.cycle_sim.specs.Marked.{mark_at, IsMarked, IsUnmarked, HasMore, HasAll};
+ghost use Rattle.cycle_sim.specs.Operands.{Bit, AreReaders, HasTaps, list_at, place};
+ghost use Rattle.cycle_sim.specs.UpToDate.{IsUpToDate, IsSeen};
+ghost use Rattle.cycle_sim.specs.Shifts.{AreSeen, StaysSame};
+
+use crate::levels::Levels;
+use crate::marks::Marks;
+use crate::readers::Readers;
+use circuit::Module;
+
+// Marks the items that name a bit of a register that a shift changes, and the register if there is one.
+fn mark_changes(
+    m: &Module,
+    readers: &Readers,
+    levels: &Levels,
+    marks: &mut Marks,
+    reg: usize,
+    first: bool,
+)
+    requires a_register { reg < length m.now.regs }
+    requires rows { length levels.now.regs ≡ length m.now.regs }
+    requires taps { HasTaps readers.now.lists.items readers.now.tapped }
+    requires room { length m.now.assigns + length m.now.regs ≤ 64 * length marks.old }
+    ensures more { HasMore marks.old marks.new }
+    ensures seen { let row = slice_index_or levels.now.regs reg [] in
+        AreSeen m.now readers.now.starts.items readers.now.lists.items marks.new reg first row (length row) }
+    ensures quiet { let row = slice_index_or levels.now.regs reg [] in
+        IsMarked marks.new (length m.now.assigns + reg) ⊎ StaysSame first row (length row) }
+{
+    let _room = marks.room();
+    let width = levels.width(reg) as usize;
+    let base = m.inputs().len() + m.wires().len() + readers.start(reg) as usize;
+    let own = m.assigns().len() + reg;
+    let mut k = levels.change(reg, first, 0);
+    while k < width {
+        marks.add(own);
+        readers.mark_all(base + k, marks);
+        let tap = readers.next_tap(base + k + 1);
+        k = levels.change(reg, first, tap - base);
+    }
+}
+
+// A register takes this level, and the items that see a change are marked.
+fn shift_register(
+    m: &Module,
+    readers: &Readers,
+    levels: &mut Levels,
+    marks: &mut Marks,
+    reg: usize,
+    first: bool,
+)
+    requires a_register { reg < length m.now.regs }
+    requires rows { length levels.old.regs ≡ length m.now.regs }
+    requires taps { HasTaps readers.now.lists.items readers.now.tapped }
+    requires readers { AreReaders m.now readers.now.starts.items readers.now.lists.items }
+    requires room { length m.now.assigns + length m.now.regs ≤ 64 * length marks.old }
+    ensures state { let row = slice_index_or levels.old.regs reg [] in
+        levels.new ≡ record levels.old { regs = slice_set levels.old.regs reg (shifted first row) } }
+    ensures more { HasMore marks.old marks.new }
+    ensures seen { IsSeen m.now levels.old levels.new marks.new }
+    ensures quiet { let row = slice_index_or levels.old.regs reg [] in
+        IsUnmarked marks.new (length m.now.assigns + reg) → shifted first row ≡ replicate (length row) first }
+{
+    mark_changes(m, readers, levels, marks, reg, first);
+    levels.shift(reg, first);
+}
+
+// Moves the marks of registers into another set, with the level of the `next` of each.
+fn take_firsts(
+    m: &Module,
+    levels: &Levels,
+    marks: &mut Marks,
+    moving: &mut Marks,
+    firsts: &mut [bool],
+)
+    requires room { length m.now.assigns + length m.now.regs ≤ 64 * length marks.old }
+    requires moving_room { length m.now.regs ≤ 64 * length moving.old }
+    requires firsts { length firsts.old ≡ length m.now.regs }
+    requires none { (r : ℕ) → r < length m.now.regs → IsUnmarked moving.old r }
+    ensures room { length marks.new ≡ length marks.old }
+    ensures moving_room { length moving.new ≡ length moving.old }
+    ensures assigns { (k : ℕ) → k < length m.now.assigns → IsUnmarked marks.new k → IsUnmarked marks.old k }
+    ensures moving { (r : ℕ) → r < length m.now.regs → IsUnmarked moving.new r →
+        IsUnmarked marks.old (length m.now.assigns + r) }
+    ensures firsts { (r : ℕ) (q : Register) → slice_get m.now.regs r ≡ Some q → IsMarked moving.new r →
+        slice_index_or firsts.new r false ≡ spec.level levels.now q.next }
+{
+    let _room = marks.room();
+    let regs = m.regs();
+    let base = m.assigns().len();
+    let end = base + regs.len();
+    let mut k = marks.first(base);
+    while k < end {
+        let reg = k - base;
+        firsts[reg] = levels.level(regs[reg].next());
+        marks.clear(k);
+        moving.mark(reg);
+        k = marks.first(k + 1);
+    }
+}
+
+/// A clock edge. Only marked registers can change. `moving` is an empty set of registers, and `firsts` room for a
+/// level of each.
+pub fn clock_edge(
+    m: &Module,
+    readers: &Readers,
+    levels: &mut Levels,
+    marks: &mut Marks,
+    moving: &mut Marks,
+    firsts: &mut [bool],
+)
+    requires levels { HasAllLevels m.now levels.old }
+    requires taps { HasTaps readers.now.lists.items readers.now.tapped }
+    requires readers { AreReaders m.now readers.now.starts.items readers.now.lists.items }
+    requires room { length m.now.assigns + length m.now.regs ≤ 64 * length marks.old }
+    requires moving_room { length m.now.regs ≤ 64 * length moving.old }
+    requires firsts { length firsts.old ≡ length m.now.regs }
+    requires none { (r : ℕ) → r < length m.now.regs → IsUnmarked moving.old r }
+    requires up_to_date { IsUpToDate m.now levels.old marks.old }
+    ensures state { levels.new ≡ record levels.old { regs = rows_after levels.old m.now.regs levels.old.regs } }
+    ensures up_to_date { IsUpToDate m.now levels.new marks.new }
+    ensures room { length marks.new ≡ length marks.old }
+    ensures moving_room { length moving.new ≡ length moving.old }
+    ensures none { (r : ℕ) → r < length m.now.regs → IsUnmarked moving.new r }
+{
+    take_firsts(m, levels, marks, moving, firsts);
+    let count = m.regs().len();
+    let mut reg = moving.first(0);
+    while reg < count {
+        moving.clear(reg);
+        shift_register(m, readers, levels, marks, reg, firsts[reg]);
+        reg = moving.first(reg + 1);
+    }
+}
