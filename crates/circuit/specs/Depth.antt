@@ -1,14 +1,14 @@
--- How deep expressions are nested, where each operand that is itself an `&` or an `|` stands in parentheses.
+-- How deep expressions are nested, where each operand that is itself an `&` or an `|` is in parentheses.
 use Rattle.std.specs.Prelude.{ℕ, suc, max, ◌≤◌, Bool, true, false, All}
 use Rattle.circuit.specs.Circuit.{Logic, Zero, One, Input, Wire, Reg, Not, And, Or, Circuit}
 
--- whether an expression stands in parentheses where it is an operand: it is itself an `&` or an `|`
+-- whether an expression is put in parentheses where it is an operand: it is itself an `&` or an `|`
 abbrev pub is_compound : Logic → Bool
 is_compound (And x y) = true
 is_compound (Or x y) = true
 is_compound _ = false
 
--- how deep an operand is nested, which stands in parentheses or doesn't
+-- how deep an operand is nested, by whether it is in parentheses
 abbrev pub operand_depth : Bool → ℕ → ℕ
 operand_depth false n = n
 operand_depth true n = suc n

@@ -1,19 +1,19 @@
 -- A text with tokens spells a module or breaks a rule first; and what it spells is valid.
-use Rattle.std.proofs.Common.{◌≡◌, ◌≢◌, ℕ, zero, suc, ◌<◌, Bool, true, false, List, [], ◌∷◌, ◌++◌, length, Option, Some, None, refl, sym, ap, ◌∙◌, arith, inl, inr, ◌⊎◌, length-append}
+use Rattle.std.proofs.Common.{◌≡◌, ◌≢◌, ℕ, zero, suc, ◌+◌, ◌≤◌, ◌<◌, Bool, true, false, List, [], ◌∷◌, ◌++◌, length, Option, Some, None, refl, sym, ap, subst, ◌∙◌, arith, inl, inr, ◌⊎◌, length-append}
 use Rattle.std.specs.Prelude.{take}
 use Rattle.rl_text.specs.declared.token.Token.{Token}
 use Rattle.rl_text.specs.declared.token.Style.TheVariants as style
-use Rattle.rl_text.specs.Tokens.{line_behind, AreTokens}
+use Rattle.rl_text.specs.Tokens.{line_behind, AreTokens, IsBad}
 use Rattle.rl_text.specs.Lexemes.{Lexeme, lexemes}
 use Rattle.circuit.specs.Circuit.{Circuit}
 use Rattle.circuit.specs.Valid.{IsValid}
 use Rattle.verilog_text.specs.declared.rule.Rule.{Rule}
 use Rattle.verilog_text.specs.declared.rule.Rule.TheVariants as rule
 use Rattle.verilog_text.specs.Grammar.{Form, Header, Input, Output, Wire, Reg, Assign, Always, End}
-use Rattle.verilog_text.specs.Statements.{Statement, Stage, Start, Declarations, Actions, Finished, stage_after, MayPrecede, Opens, Leads, AreInOrder, first_line}
+use Rattle.verilog_text.specs.Statements.{Statement, Stage, Start, Declarations, Actions, Finished, stage_after, MayPrecede, Opens, Leads, AreInOrder, AreStatements, first_line, FailsAt}
 use Rattle.verilog_text.specs.Reading.{statement_at}
 use Rattle.verilog_text.specs.Judging.{SoFar, nothing_yet, after, first_of, first_rule, breaks_name, breaks_order, breaks_width, breaks_limit, module_of}
-use Rattle.verilog_text.specs.Spelling.{AllStand, FirstBroken, SpellsModule, BreaksFirst, IsBroken}
+use Rattle.verilog_text.specs.Spelling.{AllStand, FirstBroken, AreModule, SpellsModule, BreaksFirst, IsBroken}
 use Rattle.verilog_laws.specs.Answers.{Lexes, HasAnswer}
 use Rattle.verilog_laws.proofs.Parts.{statements_valid}
 
@@ -23,8 +23,11 @@ in_order : (k : Stage) (ls : List Lexeme) (ss : List Statement) (rest : List Lex
 in_order k ls [] rest x = x.0
 in_order k ls (s ∷ ss) rest x = (x.1.allowed, in_order (stage_after s.form) x.0 ss rest x.2)
 
+pub words_valid : (words : List Lexeme) (ss : List Statement) (m : Circuit) → AreStatements words ss → AreModule ss m → IsValid m
+words_valid words ss m are is = statements_valid ss m (in_order Start words ss [] are) is
+
 pub spelled_valid : (text : List ℕ) (m : Circuit) → SpellsModule text m → IsValid m
-spelled_valid text m x = statements_valid x.statements m (in_order Start (lexemes text x.tokens) x.statements [] x.are) x.stand
+spelled_valid text m x = words_valid (lexemes text x.tokens) x.statements m x.are x.stand
 
 -- ---- words are statements, or there is a first place at which none stands
 

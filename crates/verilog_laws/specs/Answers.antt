@@ -7,7 +7,7 @@ use Rattle.circuit.specs.Circuit.{Circuit}
 use Rattle.verilog_text.specs.declared.rule.Rule.{Rule}
 use Rattle.verilog_text.specs.Spelling.{SpellsModule, IsBroken}
 
--- the text has tokens, or a first place at which none stands
+-- the text has tokens, or a first place at which there is none
 abbrev pub Lexes : List ℕ → Type 0
 Lexes text = ((tokens : List Token) × AreTokens style.Verilog text tokens) ⊎ ((place : ℕ) × IsBad style.Verilog text place)
 

@@ -6,7 +6,7 @@ use Rattle.circuit.specs.Names.{in_name, out_name, is_port_name, is_own_name}
 use Rattle.circuit.specs.Valid.{IsTarget, IsInRange}
 use Rattle.verilog_text.specs.Judging.{SoFar, Declared, Meaning, ClockOrReset, InputAt, OutputAt, WireAt, RegAt, found, bits_of, is_input_port, is_output_port, module_of}
 
--- the place that a name stands for is one of the module's
+-- the place that a name means is one of the module's
 abbrev pub HasPlace : SoFar → Meaning → Type 0
 HasPlace x ClockOrReset = Unit {0}
 HasPlace x (InputAt i) = i < length x.inputs
@@ -14,7 +14,7 @@ HasPlace x (OutputAt o) = o < length x.outputs
 HasPlace x (WireAt w) = w < length x.wires
 HasPlace x (RegAt r) = r < length x.regs
 
--- each of the names passes the test, and stands for its place
+-- each of the names passes the test, and means its place
 abbrev pub AreNamed : SoFar → (List ℕ → List ℕ) → (List ℕ → Bool) → (ℕ → Meaning) → List (List ℕ) → Type 0
 AreNamed x whole test meaning names = (k : ℕ) (n : List ℕ) → slice_get names k ≡ Some n →
     (test n ≡ true) × (found (whole n) x.entries ≡ Some (meaning k))

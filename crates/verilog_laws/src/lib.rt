@@ -2,6 +2,7 @@
 #![tactic(auto)]
 
 ghost use Rattle.std.specs.Prelude.{◌≡◌, ℕ, Bool, List, None};
+ghost use Rattle.rl_text.specs.Lexemes.{Lexeme};
 ghost use Rattle.circuit.specs.Circuit.{Circuit};
 ghost use Rattle.circuit.specs.Depth.{IsShallow};
 ghost use Rattle.circuit.specs.Meaning.{HasOneHistory};
@@ -9,7 +10,7 @@ ghost use Rattle.circuit.specs.Valid.{IsValid};
 ghost use Rattle.verilog_text.specs.Grammar.{Form};
 ghost use Rattle.verilog_text.specs.Judging.{SoFar, nothing_yet, after, first_rule};
 ghost use Rattle.verilog_text.specs.Spelling.{AreModule, SpellsModule};
-ghost use Rattle.verilog_text.specs.Statements.{Statement, Start, AreInOrder};
+ghost use Rattle.verilog_text.specs.Statements.{Statement, AreStatements};
 ghost use Rattle.verilog_text.specs.Text.{module_text};
 ghost use Rattle.verilog_laws.specs.Answers.{Lexes, HasAnswer};
 ghost use Rattle.verilog_laws.specs.Sound.{IsSound};
@@ -31,12 +32,12 @@ pub fn statements_stay_sound()
     ensures more { (x : SoFar) (f : Form) → IsSound x → first_rule x f ≡ None → IsSound (after x f) }
 {}
 
-/// Statements in order that break no rule are a valid module.
+/// Words that are statements which break no rule are a valid module.
 pub fn statements_are_valid()
-    ensures { (ss : List Statement) (m : Circuit) → AreInOrder Start ss → AreModule ss m → IsValid m }
+    ensures { (words : List Lexeme) (ss : List Statement) (m : Circuit) → AreStatements words ss → AreModule ss m → IsValid m }
 {}
 
-/// A text spells only valid modules, so each of their assigns names inputs, registers and earlier wires alone.
+/// A text spells only valid modules, so each of their assigns names only inputs, registers and earlier wires.
 pub fn spelled_is_valid()
     ensures { (text : List ℕ) (m : Circuit) → SpellsModule text m → IsValid m }
 {}

@@ -131,7 +131,7 @@ module _ (d new : source.Draft) (x : SoFar) (h : IsDraft d x) (n : List ℕ) (e 
     has_target : IsTarget (module_of x) t
     has_target = aims (found n x.entries) refl at
 
-    assign_kept : new.to_declare.now ≡ d.to_declare.now → new.scope ≡ d.scope → new.inputs.items ≡ d.inputs.items → new.outputs.items ≡ d.outputs.items → new.wires.items ≡ d.wires.items → new.regs.items ≡ d.regs.items →
+    assign_kept : new.to_declare.items ≡ d.to_declare.items → new.scope ≡ d.scope → new.inputs.items ≡ d.inputs.items → new.outputs.items ≡ d.outputs.items → new.wires.items ≡ d.wires.items → new.regs.items ≡ d.regs.items →
         new.assigns.items ≡ d.assigns.items ++ record { target = t; bit = bit } ∷ [] →
         AreFlags new.given_wires.items (length x.wires) (λ w. is_given (assign_more x t (j.resolved x.entries e)).assigns (target.Wire w)) →
         AreFlags new.given_outputs.items (length x.outputs) (λ o. is_given (assign_more x t (j.resolved x.entries e)).assigns (target.Out o)) →
@@ -159,7 +159,7 @@ module _ (d new : source.Draft) (x : SoFar) (h : IsDraft d x) (n : List ℕ) (e 
   at_found o t p q = ap target_of (sym (h.names n)) ∙ ap (λ (z : Option source_meaning.Meaning). target_of (meaning_found z)) (sym p) ∙ q
 
   pub wire_assigned : (w : ℕ) (o : Option source_meaning.Meaning) → o ≡ find d.scope n → target_of (meaning_found o) ≡ Some (target.Wire w) →
-      new.to_declare.now ≡ d.to_declare.now → new.scope ≡ d.scope → new.inputs.items ≡ d.inputs.items → new.outputs.items ≡ d.outputs.items → new.wires.items ≡ d.wires.items → new.regs.items ≡ d.regs.items →
+      new.to_declare.items ≡ d.to_declare.items → new.scope ≡ d.scope → new.inputs.items ≡ d.inputs.items → new.outputs.items ≡ d.outputs.items → new.wires.items ≡ d.wires.items → new.regs.items ≡ d.regs.items →
       new.assigns.items ≡ d.assigns.items ++ record { target = target.Wire w; bit = bit } ∷ [] → new.given_wires.items ≡ set d.given_wires.items w true → new.given_outputs.items ≡ d.given_outputs.items →
       new.updated.items ≡ d.updated.items → new.bits ≡ d.bits → IsDraft new (after x (g.Assign n e))
   wire_assigned w o p q td scope ins outs wires regs given gw go up bits =
@@ -176,7 +176,7 @@ module _ (d new : source.Draft) (x : SoFar) (h : IsDraft d x) (n : List ℕ) (e 
       up bits
 
   pub output_assigned : (w : ℕ) (o : Option source_meaning.Meaning) → o ≡ find d.scope n → target_of (meaning_found o) ≡ Some (target.Out w) →
-      new.to_declare.now ≡ d.to_declare.now → new.scope ≡ d.scope → new.inputs.items ≡ d.inputs.items → new.outputs.items ≡ d.outputs.items → new.wires.items ≡ d.wires.items → new.regs.items ≡ d.regs.items →
+      new.to_declare.items ≡ d.to_declare.items → new.scope ≡ d.scope → new.inputs.items ≡ d.inputs.items → new.outputs.items ≡ d.outputs.items → new.wires.items ≡ d.wires.items → new.regs.items ≡ d.regs.items →
       new.assigns.items ≡ d.assigns.items ++ record { target = target.Out w; bit = bit } ∷ [] → new.given_wires.items ≡ d.given_wires.items → new.given_outputs.items ≡ set d.given_outputs.items w true →
       new.updated.items ≡ d.updated.items → new.bits ≡ d.bits → IsDraft new (after x (g.Assign n e))
   output_assigned w o p q td scope ins outs wires regs given gw go up bits =
@@ -305,7 +305,7 @@ module _ (d new : source.Draft) (x : SoFar) (h : IsDraft d x) (r z s : List ℕ)
   not_reg o p q = let b : false ≡ true = sym q ∙ reg_is o ∙ ap j.is_reg (found_same d x h r z s r o p) ∙ is_reg_r in cc
 
   pub always_kept : (i : ℕ) (o : Option source_meaning.Meaning) (bit : Logic) → o ≡ find d.scope r → o ≡ Some (m.Reg i) → bit ≡ resolved_by (find d.scope) (expression_of e) →
-      new.to_declare.now ≡ d.to_declare.now → new.scope ≡ d.scope → new.inputs.items ≡ d.inputs.items → new.outputs.items ≡ d.outputs.items → new.wires.items ≡ d.wires.items →
+      new.to_declare.items ≡ d.to_declare.items → new.scope ≡ d.scope → new.inputs.items ≡ d.inputs.items → new.outputs.items ≡ d.outputs.items → new.wires.items ≡ d.wires.items →
       new.regs.items ≡ set_register i (slice_get d.regs.items i) bit d.regs.items → new.assigns.items ≡ d.assigns.items → new.given_wires.items ≡ d.given_wires.items → new.given_outputs.items ≡ d.given_outputs.items →
       new.updated.items ≡ set d.updated.items i true → new.bits ≡ d.bits → IsDraft new (after x (g.Always r z s e))
   always_kept i o bit p q is td scope ins outs wires regs given gw go up bits =

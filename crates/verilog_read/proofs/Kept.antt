@@ -1,5 +1,5 @@
 -- A draft with one more statement, which breaks no rule, is of the statements with this one.
-use Rattle.std.proofs.Common.{◌≡◌, ℕ, zero, suc, ◌+◌, ◌<◌, ◌≤◌, Bool, true, false, not, cond, ◌||◌, ltb, List, [], ◌∷◌, ◌++◌, length, map, drop, get_or, Option, Some, None, refl, sym, ap, subst, ◌∙◌, arith, inl, inr, codes}
+use Rattle.std.proofs.Common.{◌≡◌, ℕ, zero, suc, ◌+◌, ◌<◌, ◌≤◌, Bool, true, false, not, cond, ◌||◌, ltb, List, [], ◌∷◌, ◌++◌, length, map, drop, get_or, Option, Some, None, refl, sym, ap, subst, ◌∙◌, arith, inl, inr}
 use denote.Bor.{Bor}
 use Rattle.std.specs.Prelude.{is_some}
 use Rattle.std.specs.List.{list_any}
@@ -84,7 +84,7 @@ module _ (d : source.Draft) (x : SoFar) (h : IsDraft d x) (n : List ℕ) where
   output_misnamed_is = λ i. (misnamed_is i || misplaced_is i) || not (is_output_port n)
 
   pub own_misnamed_is : own_misnamed_by d n ≡ j.own_misnamed x n
-  own_misnamed_is = λ i. (misnamed_is i || not (is_own_name n)) || (any_map (bytes_eq n) d.to_declare.now ∙ ap (λ (ns : List (List ℕ)). list_any (bytes_eq n) ns) h.to_declare) i
+  own_misnamed_is = λ i. (misnamed_is i || not (is_own_name n)) || (any_map (bytes_eq n) d.to_declare.items ∙ ap (λ (ns : List (List ℕ)). list_any (bytes_eq n) ns) h.to_declare) i
 
 -- a name that is not misnamed is not declared yet
 fresh_is : (x : SoFar) (n : List ℕ) → j.is_misnamed x n ≡ false → found n x.entries ≡ None
@@ -191,7 +191,7 @@ input_more x n = with_entry n (InputAt (length x.inputs)) (record x { to_declare
 
 module _ (d new : source.Draft) (x : SoFar) (n : List ℕ) (h : IsDraft d x) where
   pub clock_kept : IsSound (after x (g.Input n)) → first_rule x (g.Input n) ≡ None → is_clock_or_reset n ≡ true → AddsName d.scope new.scope n m.ClockOrReset →
-      new.to_declare.now ≡ drop 1 d.to_declare.now → new.inputs.items ≡ d.inputs.items → new.outputs.items ≡ d.outputs.items → new.wires.items ≡ d.wires.items → new.regs.items ≡ d.regs.items →
+      new.to_declare.items ≡ drop 1 d.to_declare.items → new.inputs.items ≡ d.inputs.items → new.outputs.items ≡ d.outputs.items → new.wires.items ≡ d.wires.items → new.regs.items ≡ d.regs.items →
       new.assigns.items ≡ d.assigns.items → new.given_wires.items ≡ d.given_wires.items → new.given_outputs.items ≡ d.given_outputs.items → new.updated.items ≡ d.updated.items → new.bits ≡ d.bits →
       IsDraft new (after x (g.Input n))
   clock_kept sound rule clock scope td ins outs wires regs given gw go up bits =
@@ -199,7 +199,7 @@ module _ (d new : source.Draft) (x : SoFar) (n : List ℕ) (h : IsDraft d x) whe
       let p = port_parts x n (is_clock_or_reset n || is_input_port n) k.name in
       let same : after x (g.Input n) ≡ clock_more x n = ap (λ (b : Bool). cond b (clock_more x n) (input_more x n)) clock in
       subst (IsDraft new) (sym same) (record {
-        to_declare = ap ports_now td ∙ behind d.to_declare.now x.to_declare h.to_declare;
+        to_declare = ap ports_now td ∙ behind d.to_declare.items x.to_declare h.to_declare;
         names = names_more d.scope new.scope x.entries n m.ClockOrReset h.names scope p.fresh;
         inputs = ins ∙ h.inputs;
         outputs = outs ∙ h.outputs;
@@ -214,7 +214,7 @@ module _ (d new : source.Draft) (x : SoFar) (n : List ℕ) (h : IsDraft d x) whe
       })
 
   pub input_kept : (at : ℕ) (name : List ℕ) → IsSound (after x (g.Input n)) → first_rule x (g.Input n) ≡ None → is_clock_or_reset n ≡ false → at ≡ length d.inputs.items → name ≡ drop 3 n → AddsName d.scope new.scope n (m.Input at) →
-      new.to_declare.now ≡ drop 1 d.to_declare.now → new.inputs.items ≡ d.inputs.items ++ name ∷ [] → new.outputs.items ≡ d.outputs.items → new.wires.items ≡ d.wires.items → new.regs.items ≡ d.regs.items →
+      new.to_declare.items ≡ drop 1 d.to_declare.items → new.inputs.items ≡ d.inputs.items ++ name ∷ [] → new.outputs.items ≡ d.outputs.items → new.wires.items ≡ d.wires.items → new.regs.items ≡ d.regs.items →
       new.assigns.items ≡ d.assigns.items → new.given_wires.items ≡ d.given_wires.items → new.given_outputs.items ≡ d.given_outputs.items → new.updated.items ≡ d.updated.items → new.bits ≡ d.bits →
       IsDraft new (after x (g.Input n))
   input_kept at name sound rule clock place named scope td ins outs wires regs given gw go up bits =
@@ -224,7 +224,7 @@ module _ (d new : source.Draft) (x : SoFar) (n : List ℕ) (h : IsDraft d x) whe
       let same : after x (g.Input n) ≡ input_more x n = ap (λ (b : Bool). cond b (clock_more x n) (input_more x n)) clock in
       let here : at ≡ length x.inputs = place ∙ ap length h.inputs in
       subst (IsDraft new) (sym same) (record {
-        to_declare = ap ports_now td ∙ behind d.to_declare.now x.to_declare h.to_declare;
+        to_declare = ap ports_now td ∙ behind d.to_declare.items x.to_declare h.to_declare;
         names = subst (λ (i : ℕ). (t : List ℕ) → meaning_found (find new.scope t) ≡ found t (x.entries ++ entry n (InputAt i) ∷ [])) here (names_more d.scope new.scope x.entries n (m.Input at) h.names scope p.fresh);
         inputs = ins ∙ (λ i. h.inputs i ++ named i ∷ []);
         outputs = outs ∙ h.outputs;
@@ -239,7 +239,7 @@ module _ (d new : source.Draft) (x : SoFar) (n : List ℕ) (h : IsDraft d x) whe
       })
 
   pub output_kept : (at : ℕ) (name : List ℕ) → IsSound (after x (g.Output n)) → first_rule x (g.Output n) ≡ None → at ≡ length d.outputs.items → name ≡ drop 4 n → AddsName d.scope new.scope n (m.Output at) →
-      new.to_declare.now ≡ drop 1 d.to_declare.now → new.inputs.items ≡ d.inputs.items → new.outputs.items ≡ d.outputs.items ++ name ∷ [] → new.wires.items ≡ d.wires.items → new.regs.items ≡ d.regs.items →
+      new.to_declare.items ≡ drop 1 d.to_declare.items → new.inputs.items ≡ d.inputs.items → new.outputs.items ≡ d.outputs.items ++ name ∷ [] → new.wires.items ≡ d.wires.items → new.regs.items ≡ d.regs.items →
       new.assigns.items ≡ d.assigns.items → new.given_wires.items ≡ d.given_wires.items → new.given_outputs.items ≡ d.given_outputs.items ++ false ∷ [] → new.updated.items ≡ d.updated.items → new.bits ≡ d.bits →
       IsDraft new (after x (g.Output n))
   output_kept at name sound rule place named scope td ins outs wires regs given gw go up bits =
@@ -247,7 +247,7 @@ module _ (d new : source.Draft) (x : SoFar) (n : List ℕ) (h : IsDraft d x) whe
       let p = port_parts x n (is_output_port n) k.name in
       let here : at ≡ length x.outputs = place ∙ ap length h.outputs in
       record {
-        to_declare = ap ports_now td ∙ behind d.to_declare.now x.to_declare h.to_declare;
+        to_declare = ap ports_now td ∙ behind d.to_declare.items x.to_declare h.to_declare;
         names = subst (λ (i : ℕ). (t : List ℕ) → meaning_found (find new.scope t) ≡ found t (x.entries ++ entry n (OutputAt i) ∷ [])) here (names_more d.scope new.scope x.entries n (m.Output at) h.names scope p.fresh);
         inputs = ins ∙ h.inputs;
         outputs = outs ∙ (λ i. h.outputs i ++ named i ∷ []);
@@ -265,7 +265,7 @@ module _ (d new : source.Draft) (x : SoFar) (n : List ℕ) (h : IsDraft d x) whe
   -- ---- wires and registers
 
   pub wire_kept : (at : ℕ) (name : List ℕ) → IsSound (after x (g.Wire n)) → first_rule x (g.Wire n) ≡ None → at ≡ length d.wires.items → name ≡ n → AddsName d.scope new.scope n (m.Wire at) →
-      new.to_declare.now ≡ d.to_declare.now → new.inputs.items ≡ d.inputs.items → new.outputs.items ≡ d.outputs.items → new.wires.items ≡ d.wires.items ++ name ∷ [] → new.regs.items ≡ d.regs.items →
+      new.to_declare.items ≡ d.to_declare.items → new.inputs.items ≡ d.inputs.items → new.outputs.items ≡ d.outputs.items → new.wires.items ≡ d.wires.items ++ name ∷ [] → new.regs.items ≡ d.regs.items →
       new.assigns.items ≡ d.assigns.items → new.given_wires.items ≡ d.given_wires.items ++ false ∷ [] → new.given_outputs.items ≡ d.given_outputs.items → new.updated.items ≡ d.updated.items → new.bits ≡ d.bits →
       IsDraft new (after x (g.Wire n))
   wire_kept at name sound rule place named scope td ins outs wires regs given gw go up bits =
@@ -289,7 +289,7 @@ module _ (d new : source.Draft) (x : SoFar) (n : List ℕ) (h : IsDraft d x) whe
       }
 
   pub reg_kept : (at : ℕ) (r : Register) (l : Option (List ℕ)) → IsSound (after x (g.Reg l n)) → first_rule x (g.Reg l n) ≡ None → at ≡ length d.regs.items → r ≡ record { name = n; width = capped_width l; next = Zero } → AddsName d.scope new.scope n (m.Reg at) →
-      new.to_declare.now ≡ d.to_declare.now → new.inputs.items ≡ d.inputs.items → new.outputs.items ≡ d.outputs.items → new.wires.items ≡ d.wires.items → new.regs.items ≡ d.regs.items ++ r ∷ [] →
+      new.to_declare.items ≡ d.to_declare.items → new.inputs.items ≡ d.inputs.items → new.outputs.items ≡ d.outputs.items → new.wires.items ≡ d.wires.items → new.regs.items ≡ d.regs.items ++ r ∷ [] →
       new.assigns.items ≡ d.assigns.items → new.given_wires.items ≡ d.given_wires.items → new.given_outputs.items ≡ d.given_outputs.items → new.updated.items ≡ d.updated.items ++ false ∷ [] → new.bits ≡ d.bits + capped_width l →
       IsDraft new (after x (g.Reg l n))
   reg_kept at r l sound rule place made scope td ins outs wires regs given gw go up bits =
@@ -319,7 +319,7 @@ module _ (d new : source.Draft) (x : SoFar) (n : List ℕ) (h : IsDraft d x) whe
 
 -- ---- the header
 
-pub header_kept : (d new : source.Draft) (x : SoFar) (name : List ℕ) (ports : List (List ℕ)) → IsDraft d nothing_yet → IsSound (after x (g.Header name ports)) → first_rule x (g.Header name ports) ≡ None → ports_now new.to_declare.now ≡ ports →
+pub header_kept : (d new : source.Draft) (x : SoFar) (name : List ℕ) (ports : List (List ℕ)) → IsDraft d nothing_yet → IsSound (after x (g.Header name ports)) → first_rule x (g.Header name ports) ≡ None → ports_now new.to_declare.items ≡ ports →
     new ≡ record d { to_declare = new.to_declare } → IsDraft new (after x (g.Header name ports))
 header_kept d new x name ports h sound rule td same =
     subst (λ (e : source.Draft). IsDraft e (record nothing_yet { to_declare = ports })) (sym same) (record {

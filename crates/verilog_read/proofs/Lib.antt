@@ -10,4 +10,3 @@ pub mod Assigned
 pub mod Zeros
 pub mod Flags
 pub mod Reached
-pub mod Read

@@ -1,11 +1,10 @@
 -- What a look-up of names tells of an expression, and what it says of a module.
-use Rattle.std.proofs.Common.{◌≡◌, ℕ, ◌<◌, ◌≤◌, Bool, true, false, ◌&&◌, ◌||◌, eqb, ltb, List, length, map, Option, Some, None, refl, sym, ap, ◌∙◌, arith, inl, inr, ◌⊎◌}
+use Rattle.std.proofs.Common.{◌≡◌, ℕ, ◌<◌, ◌≤◌, Bool, true, false, ◌&&◌, ltb, List, length, map, Option, Some, None, refl, sym, ap, ◌∙◌, arith, inl, inr}
 use Rattle.std.specs.Prelude.{slice_get, min, is_some}
 use Rattle.std.proofs.lemmas.Bool.{and_parts, cases_lt, lt-ltb, le-ltb}
 use Rattle.circuit.specs.declared.bit.Target.TheVariants as target
 use Rattle.circuit.specs.Circuit as c
 use Rattle.circuit.specs.Circuit.{Logic, Register, Circuit, Assignment, names_wire}
-use Rattle.circuit.specs.Valid.{IsInRange}
 use Rattle.verilog_text.specs.Grammar.{Expression, Low, High, Name, Bit, Not, Group, And, Or}
 use Rattle.verilog_text.specs.Judging as j
 use Rattle.verilog_text.specs.Judging.{SoFar, Entry, Declared, Meaning, ClockOrReset, InputAt, OutputAt, WireAt, RegAt, found, number_of, register_of, is_given, module_of}

@@ -1,12 +1,24 @@
 -- What an answer of the reader says of a text.
-use Rattle.std.specs.Prelude.{ℕ, List}
+use Rattle.std.specs.Prelude.{◌≡◌, ℕ, List}
+use Rattle.rl_text.specs.declared.token.Token.{Token}
+use Rattle.rl_text.specs.declared.token.Style.TheVariants as style
+use Rattle.rl_text.specs.Tokens.{AreTokens}
+use Rattle.rl_text.specs.Lexemes.{Lexeme, lexemes}
+use Rattle.circuit.specs.Circuit.{Circuit}
 use Rattle.verilog_text.specs.declared.rule.Rule.{Rule}
 use Rattle.verilog_text.specs.declared.rule.Rule.TheVariants as rule
-use Rattle.verilog_text.specs.Spelling.{FirstBroken, IsBroken}
+use Rattle.verilog_text.specs.Spelling.{FirstBroken, AreModule, IsBroken}
 use Rattle.verilog_text.specs.Judging.{nothing_yet}
-use Rattle.verilog_text.specs.Statements.{Statement}
+use Rattle.verilog_text.specs.Statements.{Statement, AreStatements, FailsAt}
+use Rattle.verilog_syntax.specs.declared.error.SyntaxError.{SyntaxError}
+use Rattle.verilog_syntax.specs.declared.error.SyntaxError.TheVariants as syntax_error
 use Rattle.verilog_read.specs.declared.error.VerilogError.{VerilogError}
 use Rattle.verilog_read.specs.declared.error.VerilogError.TheVariants as error
+
+-- what the reader answers at a fault of the syntax
+abbrev pub of_syntax : SyntaxError → VerilogError
+of_syntax (syntax_error.At line) = error.Syntax line
+of_syntax syntax_error.NoMemory = error.NoMemory
 
 abbrev pub error_of : Rule → ℕ → VerilogError
 error_of rule.Syntax n = error.Syntax n
@@ -28,6 +40,15 @@ Names error.NoMemory P = Unit {0}
 abbrev pub IsCause : List ℕ → VerilogError → Type 0
 IsCause text e = Names e (IsBroken text)
 
--- the error is the first broken rule of the statements, on its line
-abbrev pub IsFirstBroken : List Statement → VerilogError → Type 0
-IsFirstBroken ss e = Names e (FirstBroken nothing_yet ss)
+-- what is wrong with words first, and its line: the place where there is no statement, or the rule that a statement breaks
+abbrev pub Fails : List Lexeme → ℕ → Rule → ℕ → Type 0
+Fails ls end rule.Syntax line = FailsAt ls end line
+Fails ls end r line = (ss : List Statement) × AreStatements ls ss × FirstBroken nothing_yet ss r line
+
+-- these are the words of the text
+abbrev pub AreWordsOf : List ℕ → List Lexeme → Type 0
+AreWordsOf text ls = (tokens : List Token) × AreTokens style.Verilog text tokens × (ls ≡ lexemes text tokens)
+
+-- the words are statements that keep all rules and are this module
+abbrev pub AreWordsOfModule : List Lexeme → Circuit → Type 0
+AreWordsOfModule ls m = (ss : List Statement) × AreStatements ls ss × AreModule ss m

@@ -26,7 +26,7 @@ fn target_of(meaning: Option<Meaning>) -> Option<Target>
     }
 }
 
-fn is_assigned(draft: &Draft<'_, '_>, target: Option<Target>) -> bool
+fn is_assigned(draft: &Draft<'_>, target: Option<Target>) -> bool
     ensures { result ≡ is_assigned_by draft.now.given_wires.items draft.now.given_outputs.items target }
 {
     match target {
@@ -44,14 +44,14 @@ fn set_flag(flags: &mut Vec<bool>, place: u32)
     }
 }
 
-fn assign_misnamed(draft: &Draft<'_, '_>, name: &[u8], written: &Written<'_>) -> bool
+fn assign_misnamed(draft: &Draft<'_>, name: &[u8], written: &Written<'_>) -> bool
     ensures { result ≡ assign_misnamed_by draft.now name.now (v.expression written.now) }
 {
     let target = target_of(draft.scope.get(name));
     target.is_none() || !knows(written, &draft.scope)
 }
 
-fn assign_misordered(draft: &Draft<'_, '_>, name: &[u8], written: &Written<'_>) -> bool
+fn assign_misordered(draft: &Draft<'_>, name: &[u8], written: &Written<'_>) -> bool
     ensures { result ≡ assign_misordered_by draft.now name.now (v.expression written.now) }
 {
     let target = target_of(draft.scope.get(name));
@@ -60,7 +60,7 @@ fn assign_misordered(draft: &Draft<'_, '_>, name: &[u8], written: &Written<'_>) 
 
 fn push_assign(
     alloc: Global,
-    draft: &mut Draft<'_, '_>,
+    draft: &mut Draft<'_>,
     name: &[u8],
     written: &Written<'_>,
 ) -> Result<(), NoMemory>
@@ -84,7 +84,7 @@ fn push_assign(
 /// Judges an assign behind the statements before it, and keeps it where it breaks no rule.
 pub fn read_assign(
     alloc: Global,
-    draft: &mut Draft<'_, '_>,
+    draft: &mut Draft<'_>,
     name: &[u8],
     written: &Written<'_>,
 ) -> Result<(), StepError>
@@ -170,7 +170,7 @@ fn is_update(reg: &Reg, always: &Always<'_>) -> bool
         && has_form(name, width, &always.next)
 }
 
-fn is_update_at(draft: &Draft<'_, '_>, meaning: Option<Meaning>, always: &Always<'_>) -> bool
+fn is_update_at(draft: &Draft<'_>, meaning: Option<Meaning>, always: &Always<'_>) -> bool
     ensures { result ≡ update_at draft.now.regs.items meaning always.now.zero.now always.now.update.now (v.next always.now.next) }
 {
     match meaning {
@@ -182,7 +182,7 @@ fn is_update_at(draft: &Draft<'_, '_>, meaning: Option<Meaning>, always: &Always
     }
 }
 
-fn is_updated(draft: &Draft<'_, '_>, meaning: Option<Meaning>) -> bool
+fn is_updated(draft: &Draft<'_>, meaning: Option<Meaning>) -> bool
     ensures { result ≡ is_flagged_reg draft.now.updated.items meaning }
 {
     match meaning {
@@ -191,7 +191,7 @@ fn is_updated(draft: &Draft<'_, '_>, meaning: Option<Meaning>) -> bool
     }
 }
 
-fn always_misnamed(draft: &Draft<'_, '_>, always: &Always<'_>) -> bool
+fn always_misnamed(draft: &Draft<'_>, always: &Always<'_>) -> bool
     ensures { result ≡ always_misnamed_by draft.now always.now.reset.now always.now.update.now (v.next always.now.next) }
 {
     !is_reg(draft.scope.get(always.reset))
@@ -209,11 +209,7 @@ fn set_next(regs: &mut Vec<Reg>, place: u32, next: Bit)
     }
 }
 
-fn push_always(
-    alloc: Global,
-    draft: &mut Draft<'_, '_>,
-    always: &Always<'_>,
-) -> Result<(), NoMemory>
+fn push_always(alloc: Global, draft: &mut Draft<'_>, always: &Always<'_>) -> Result<(), NoMemory>
     ensures { OnOk result (Adds draft.old (g.Always always.now.reset.now always.now.zero.now always.now.update.now (v.next always.now.next)) draft.new) }
 {
     let next = resolve(alloc, expression_of(&always.next), &draft.scope)?;
@@ -227,7 +223,7 @@ fn push_always(
 /// Judges an always statement, and keeps what its register takes where it breaks no rule.
 pub fn read_always(
     alloc: Global,
-    draft: &mut Draft<'_, '_>,
+    draft: &mut Draft<'_>,
     always: &Always<'_>,
 ) -> Result<(), StepError>
     requires { IsOfSome draft.old }

@@ -9,7 +9,7 @@ ghost use Rattle.verilog_read.specs.Draft.{IsDraft, IsOfSome, Adds, Judges, is_m
 use crate::draft::{Draft, StepError};
 use crate::expressions::number;
 use crate::names::{
-    are_few, are_ports, behind_first, is_among, is_clock_or_reset, is_input_port, is_next,
+    are_few, are_ports, drop_first, is_among, is_clock_or_reset, is_input_port, is_next,
     is_output_port, is_own_name, is_race, without_front,
 };
 use crate::scope::Meaning;
@@ -19,40 +19,40 @@ use std::alloc::Global;
 use verilog_text::{Bit, Reg, Rule};
 
 /// Judges the header: the name of the module and the list of its ports, which are then to be declared.
-pub fn read_header<'b, 'a>(
-    draft: &mut Draft<'b, 'a>,
+pub fn read_header<'a>(
+    draft: &mut Draft<'a>,
     name: &[u8],
-    ports: &'b [&'a [u8]],
+    ports: Vec<&'a [u8]>,
 ) -> Result<(), StepError>
     requires { IsDraft draft.old nothing_yet }
-    ensures { Judges draft.old (g.Header name.now (map (λ p. p.now) ports.now)) draft.new result }
+    ensures { Judges draft.old (g.Header name.now (map (λ p. p.now) ports.entry.items)) draft.new result }
 {
     if !is_race(name) {
         return Err(StepError::Broken(Rule::Name));
     }
-    if !are_ports(ports) {
+    if !are_ports(&ports) {
         return Err(StepError::Broken(Rule::Name));
     }
-    if !are_few(ports) {
+    if !are_few(&ports) {
         return Err(StepError::Broken(Rule::Limit));
     }
     draft.to_declare = ports;
     Ok(())
 }
 
-fn is_misnamed(draft: &Draft<'_, '_>, name: &[u8]) -> bool
+fn is_misnamed(draft: &Draft<'_>, name: &[u8]) -> bool
     ensures { result ≡ is_misnamed_by draft.now name.now }
 {
     name.len() > 40 || draft.scope.get(name).is_some()
 }
 
-fn is_misplaced(draft: &Draft<'_, '_>, name: &[u8]) -> bool
+fn is_misplaced(draft: &Draft<'_>, name: &[u8]) -> bool
     ensures { result ≡ is_misplaced_by draft.now name.now }
 {
-    !is_next(name, draft.to_declare) || draft.wires.len() > 0 || draft.regs.len() > 0
+    !is_next(name, &draft.to_declare) || draft.wires.len() > 0 || draft.regs.len() > 0
 }
 
-fn input_misnamed(draft: &Draft<'_, '_>, name: &[u8]) -> bool
+fn input_misnamed(draft: &Draft<'_>, name: &[u8]) -> bool
     ensures { result ≡ input_misnamed_by draft.now name.now }
 {
     is_misnamed(draft, name)
@@ -60,28 +60,28 @@ fn input_misnamed(draft: &Draft<'_, '_>, name: &[u8]) -> bool
         || !(is_clock_or_reset(name) || is_input_port(name))
 }
 
-fn output_misnamed(draft: &Draft<'_, '_>, name: &[u8]) -> bool
+fn output_misnamed(draft: &Draft<'_>, name: &[u8]) -> bool
     ensures { result ≡ output_misnamed_by draft.now name.now }
 {
     is_misnamed(draft, name) || is_misplaced(draft, name) || !is_output_port(name)
 }
 
-fn own_misnamed(draft: &Draft<'_, '_>, name: &[u8]) -> bool
+fn own_misnamed(draft: &Draft<'_>, name: &[u8]) -> bool
     ensures { result ≡ own_misnamed_by draft.now name.now }
 {
-    is_misnamed(draft, name) || !is_own_name(name) || is_among(name, draft.to_declare)
+    is_misnamed(draft, name) || !is_own_name(name) || is_among(name, &draft.to_declare)
 }
 
-fn push_clock<'a>(draft: &mut Draft<'_, 'a>, name: &'a [u8]) -> Result<(), NoMemory>
+fn push_clock<'a>(draft: &mut Draft<'a>, name: &'a [u8]) -> Result<(), NoMemory>
     requires { is_clock_or_reset name.now ≡ true }
     ensures { OnOk result (Adds draft.old (g.Input name.now) draft.new) }
 {
     draft.scope.add(name, Meaning::ClockOrReset)?;
-    draft.to_declare = behind_first(draft.to_declare);
+    drop_first(&mut draft.to_declare);
     Ok(())
 }
 
-fn push_input<'a>(alloc: Global, draft: &mut Draft<'_, 'a>, name: &'a [u8]) -> Result<(), NoMemory>
+fn push_input<'a>(alloc: Global, draft: &mut Draft<'a>, name: &'a [u8]) -> Result<(), NoMemory>
     requires few { length draft.old.inputs.items ≤ 64 }
     requires port { is_clock_or_reset name.now ≡ false }
     ensures { OnOk result (Adds draft.old (g.Input name.now) draft.new) }
@@ -90,16 +90,12 @@ fn push_input<'a>(alloc: Global, draft: &mut Draft<'_, 'a>, name: &'a [u8]) -> R
     let input = Name::new(alloc, without_front(name, 3))?;
     draft.scope.add(name, Meaning::Input(place))?;
     draft.inputs.push(input)?;
-    draft.to_declare = behind_first(draft.to_declare);
+    drop_first(&mut draft.to_declare);
     Ok(())
 }
 
 /// Judges the declaration of an input, the clock or the reset, and keeps it where it breaks no rule.
-pub fn read_input<'a>(
-    alloc: Global,
-    draft: &mut Draft<'_, 'a>,
-    name: &'a [u8],
-) -> Result<(), StepError>
+pub fn read_input<'a>(alloc: Global, draft: &mut Draft<'a>, name: &'a [u8]) -> Result<(), StepError>
     requires { IsOfSome draft.old }
     ensures { Judges draft.old (g.Input name.now) draft.new result }
 {
@@ -114,7 +110,7 @@ pub fn read_input<'a>(
     Ok(())
 }
 
-fn push_output<'a>(alloc: Global, draft: &mut Draft<'_, 'a>, name: &'a [u8]) -> Result<(), NoMemory>
+fn push_output<'a>(alloc: Global, draft: &mut Draft<'a>, name: &'a [u8]) -> Result<(), NoMemory>
     requires { length draft.old.outputs.items ≤ 64 }
     ensures { OnOk result (Adds draft.old (g.Output name.now) draft.new) }
 {
@@ -123,14 +119,14 @@ fn push_output<'a>(alloc: Global, draft: &mut Draft<'_, 'a>, name: &'a [u8]) -> 
     draft.scope.add(name, Meaning::Output(place))?;
     draft.outputs.push(output)?;
     draft.given_outputs.push(false)?;
-    draft.to_declare = behind_first(draft.to_declare);
+    drop_first(&mut draft.to_declare);
     Ok(())
 }
 
 /// Judges the declaration of an output, and keeps it where it breaks no rule.
 pub fn read_output<'a>(
     alloc: Global,
-    draft: &mut Draft<'_, 'a>,
+    draft: &mut Draft<'a>,
     name: &'a [u8],
 ) -> Result<(), StepError>
     requires { IsOfSome draft.old }
@@ -143,7 +139,7 @@ pub fn read_output<'a>(
     Ok(())
 }
 
-fn push_wire<'a>(alloc: Global, draft: &mut Draft<'_, 'a>, name: &'a [u8]) -> Result<(), NoMemory>
+fn push_wire<'a>(alloc: Global, draft: &mut Draft<'a>, name: &'a [u8]) -> Result<(), NoMemory>
     requires { length draft.old.wires.items ≤ 65536 }
     ensures { OnOk result (Adds draft.old (g.Wire name.now) draft.new) }
 {
@@ -156,11 +152,7 @@ fn push_wire<'a>(alloc: Global, draft: &mut Draft<'_, 'a>, name: &'a [u8]) -> Re
 }
 
 /// Judges the declaration of a wire, and keeps it where it breaks no rule.
-pub fn read_wire<'a>(
-    alloc: Global,
-    draft: &mut Draft<'_, 'a>,
-    name: &'a [u8],
-) -> Result<(), StepError>
+pub fn read_wire<'a>(alloc: Global, draft: &mut Draft<'a>, name: &'a [u8]) -> Result<(), StepError>
     requires { IsOfSome draft.old }
     ensures { Judges draft.old (g.Wire name.now) draft.new result }
 {
@@ -196,7 +188,7 @@ fn width_of(last: Option<&[u8]>) -> u32
 
 fn push_reg<'a>(
     alloc: Global,
-    draft: &mut Draft<'_, 'a>,
+    draft: &mut Draft<'a>,
     last: Option<&[u8]>,
     name: &'a [u8],
 ) -> Result<(), NoMemory>
@@ -217,7 +209,7 @@ fn push_reg<'a>(
 /// Judges the declaration of a register, with the last bit of its range or none, and keeps it where it breaks no rule.
 pub fn read_reg<'a>(
     alloc: Global,
-    draft: &mut Draft<'_, 'a>,
+    draft: &mut Draft<'a>,
     last: Option<&[u8]>,
     name: &'a [u8],
 ) -> Result<(), StepError>

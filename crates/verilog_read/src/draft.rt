@@ -20,12 +20,19 @@ impl From<rl_time::NoMemory> for StepError {
     }
 }
 
+/// The rule that statements break first, and the line of the statement that breaks it.
+#[derive(Clone, Copy, Debug, PartialEq, Eq)]
+pub struct Fault {
+    pub rule: Rule,
+    pub line: u32,
+}
+
 /// What is kept of the statements so far: the ports that are still to be declared, the declared names, and the parts of
 /// the module, where a register without an always statement takes 0. The flags say which wires and which outputs have
 /// an assign, and which registers an always statement.
 #[derive(Drop)]
-pub struct Draft<'b, 'a> {
-    pub to_declare: &'b [&'a [u8]],
+pub struct Draft<'a> {
+    pub to_declare: Vec<&'a [u8]>,
     pub scope: Scope<'a>,
     pub inputs: Vec<Name>,
     pub outputs: Vec<Name>,

@@ -1,22 +1,37 @@
-//! The module that statements are.
-ghost use Rattle.std.specs.Prelude.{◌≡◌, [], IfOk, IfErr};
+//! The module that words are.
+ghost use Rattle.std.specs.Prelude.{◌≡◌, None, IfOk, IfErr, map};
 ghost use Rattle.std.specs.List.{list_all};
+ghost use Rattle.rl_text.specs.Words.{lexeme};
 ghost use Rattle.verilog_text.specs.Grammar.{End};
-ghost use Rattle.verilog_text.specs.Statements.{AreInOrder, Start};
-ghost use Rattle.verilog_text.specs.Spelling.{AreModule};
-ghost use Rattle.verilog_syntax.specs.View.{form, statements};
-ghost use Rattle.verilog_read.specs.Draft.{IsOfSome, IsReady, Judges, IsWhole, is_unfinished_by};
-ghost use Rattle.verilog_read.specs.Outcome.{error_of, IsFirstBroken};
+ghost use Rattle.verilog_syntax.specs.View.{form, statement};
+ghost use Rattle.verilog_read.specs.Draft.{IsEmpty, IsOfSome, IsReady, Judges, JudgesNext, IsWhole, is_unfinished_by};
+ghost use Rattle.verilog_read.specs.Outcome.{error_of, Names, Fails, AreWordsOfModule};
 
 use crate::actions::{read_always, read_assign};
 use crate::declarations::{read_header, read_input, read_output, read_reg, read_wire};
-use crate::draft::{Draft, StepError};
+use crate::draft::{Draft, Fault, StepError};
 use crate::error::VerilogError;
 use crate::scope::Scope;
+use rl_text::Lexeme;
+use rl_time::NoMemory;
 use std::alloc::Global;
 use verilog_laws::{statements_are_valid, statements_stay_sound};
-use verilog_syntax::{Form, Statement};
+use verilog_syntax::{Form, Stage, Statement, SyntaxError, next_statement};
 use verilog_text::{Module, Rule};
+
+impl From<SyntaxError> for VerilogError {
+    ghost use Rattle.std.specs.Prelude.{◌≡◌};
+    ghost use Rattle.verilog_read.specs.Outcome.{of_syntax};
+
+    ghost from_gives = { λ e x. x ≡ of_syntax e };
+
+    fn from(e: SyntaxError) -> VerilogError {
+        match e {
+            SyntaxError::At(line) => VerilogError::Syntax(line),
+            SyntaxError::NoMemory => VerilogError::NoMemory,
+        }
+    }
+}
 
 fn are_set(flags: &[bool]) -> bool
     ensures { result ≡ list_all (λ b. b) flags.now }
@@ -24,7 +39,7 @@ fn are_set(flags: &[bool]) -> bool
     flags.iter().all(|flag| *flag)
 }
 
-fn is_unfinished(draft: &Draft<'_, '_>) -> bool
+fn is_unfinished(draft: &Draft<'_>) -> bool
     ensures { result ≡ is_unfinished_by draft.now }
 {
     draft.to_declare.len() > 0
@@ -33,7 +48,7 @@ fn is_unfinished(draft: &Draft<'_, '_>) -> bool
         || !are_set(&draft.updated)
 }
 
-fn read_end(draft: &mut Draft<'_, '_>) -> Result<(), StepError>
+fn read_end(draft: &mut Draft<'_>) -> Result<(), StepError>
     requires { IsOfSome draft.old }
     ensures { Judges draft.old End draft.new result }
 {
@@ -43,24 +58,43 @@ fn read_end(draft: &mut Draft<'_, '_>) -> Result<(), StepError>
     Ok(())
 }
 
-/// Judges a statement behind those before it, and keeps it where it breaks no rule.
-fn read_form<'b, 'a>(
-    alloc: Global,
-    draft: &mut Draft<'b, 'a>,
-    statement: &'b Form<'a>,
-) -> Result<(), StepError>
-    requires { IsReady draft.old (form statement.now) }
-    ensures { Judges draft.old (form statement.now) draft.new result }
+/// Judges a statement after those before it, and keeps it where it breaks no rule.
+fn read_form<'a>(alloc: Global, draft: &mut Draft<'a>, statement: Form<'a>) -> Result<(), StepError>
+    requires { IsReady draft.old (form statement) }
+    ensures { Judges draft.old (form statement.entry) draft.new result }
 {
     match statement {
-        Form::Header(name, ports) => read_header(draft, *name, ports),
-        Form::Input(name) => read_input(alloc, draft, *name),
-        Form::Output(name) => read_output(alloc, draft, *name),
-        Form::Wire(name) => read_wire(alloc, draft, *name),
-        Form::Reg(last, name) => read_reg(alloc, draft, *last, *name),
-        Form::Assign(name, written) => read_assign(alloc, draft, *name, written),
-        Form::Always(always) => read_always(alloc, draft, always),
+        Form::Header(name, ports) => read_header(draft, name, ports),
+        Form::Input(name) => read_input(alloc, draft, name),
+        Form::Output(name) => read_output(alloc, draft, name),
+        Form::Wire(name) => read_wire(alloc, draft, name),
+        Form::Reg(last, name) => read_reg(alloc, draft, last, name),
+        Form::Assign(name, written) => read_assign(alloc, draft, name, &written),
+        Form::Always(always) => read_always(alloc, draft, &always),
         Form::End => read_end(draft),
+    }
+}
+
+/// Judges one more statement where those before it break no rule. The fault is the first, where there is one.
+fn judge_next<'a>(
+    alloc: Global,
+    draft: &mut Draft<'a>,
+    broken: Option<Fault>,
+    next: Statement<'a>,
+) -> Result<Option<Fault>, NoMemory>
+    requires ready { broken ≡ None → IsReady draft.old (form next.form) }
+    ensures { JudgesNext draft.old broken (statement next.entry) draft.new result }
+{
+    match broken {
+        Some(fault) => Ok(Some(fault)),
+        None => {
+            let line = next.line;
+            match read_form(alloc, draft, next.form) {
+                Ok(()) => Ok(None),
+                Err(StepError::Broken(rule)) => Ok(Some(Fault { rule, line })),
+                Err(StepError::NoMemory) => Err(NoMemory),
+            }
+        }
     }
 }
 
@@ -76,20 +110,11 @@ fn error_of(rule: Rule, line: u32) -> VerilogError
     }
 }
 
-fn no_ports<'b, 'a>() -> &'b [&'a [u8]]
-    ensures { result.now ≡ [] }
+fn no_statements<'a>(alloc: Global) -> Draft<'a>
+    ensures { IsEmpty result }
 {
-    &[]
-}
-
-/// What all statements together are, or the rule that they break first.
-fn read_all<'b, 'a>(alloc: Global, all: &'b [Statement<'a>]) -> Result<Draft<'b, 'a>, VerilogError>
-    requires { AreInOrder Start (statements all.now) }
-    ensures { IsWhole (statements all.now) result }
-{
-    statements_stay_sound();
-    let mut draft = Draft {
-        to_declare: no_ports(),
+    Draft {
+        to_declare: Vec::new(alloc),
         scope: Scope::new(alloc),
         inputs: Vec::new(alloc),
         outputs: Vec::new(alloc),
@@ -100,25 +125,38 @@ fn read_all<'b, 'a>(alloc: Global, all: &'b [Statement<'a>]) -> Result<Draft<'b,
         given_outputs: Vec::new(alloc),
         updated: Vec::new(alloc),
         bits: 0,
-    };
-    for statement in all {
-        match read_form(alloc, &mut draft, &statement.form) {
-            Ok(()) => {}
-            Err(StepError::Broken(rule)) => return Err(error_of(rule, statement.line)),
-            Err(StepError::NoMemory) => return Err(VerilogError::NoMemory),
-        }
     }
-    Ok(draft)
 }
 
-/// The module that these statements are, or the rule that they break first.
-pub fn judge(alloc: Global, all: &[Statement<'_>]) -> Result<Module, VerilogError>
-    requires in_order { AreInOrder Start (statements all.now) }
-    ensures module { IfOk result (λ m. AreModule (statements all.now) m) }
-    ensures cause { IfErr result (IsFirstBroken (statements all.now)) }
+/// What all statements together are, or what is wrong first: the syntax of all words, and then the rules, statement by
+/// statement. Each statement is let go once it is judged. `end` is the line of the text's end.
+fn read_all<'a>(alloc: Global, words: &[Lexeme<'a>], end: u32) -> Result<Draft<'a>, VerilogError>
+    ensures { IsWhole (map lexeme words.now) end result }
+{
+    statements_stay_sound();
+    let mut draft = no_statements(alloc);
+    let (first, mut rest) = next_statement(alloc, words, Stage::Start, end)?;
+    let mut current = Stage::after(&first.form);
+    let mut broken = judge_next(alloc, &mut draft, None, first)?;
+    while !current.is_finished() {
+        let (next, after) = next_statement(alloc, rest, current, end)?;
+        current = Stage::after(&next.form);
+        broken = judge_next(alloc, &mut draft, broken, next)?;
+        rest = after;
+    }
+    match broken {
+        Some(fault) => Err(error_of(fault.rule, fault.line)),
+        None => Ok(draft),
+    }
+}
+
+/// The module that these words are, or what is wrong with them first. `end` is the line of the text's end.
+pub fn judge(alloc: Global, words: &[Lexeme<'_>], end: u32) -> Result<Module, VerilogError>
+    ensures module { IfOk result (AreWordsOfModule (map lexeme words.now)) }
+    ensures cause { IfErr result (λ e. Names e (Fails (map lexeme words.now) end)) }
 {
     statements_are_valid();
-    let draft = match read_all(alloc, all) {
+    let draft = match read_all(alloc, words, end) {
         Ok(draft) => draft,
         Err(error) => return Err(error),
     };

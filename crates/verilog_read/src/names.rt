@@ -198,13 +198,12 @@ pub fn is_among(name: &[u8], ports: &[&[u8]]) -> bool
     ports.iter().any(|port| name == *port)
 }
 
-/// The ports behind the first.
-pub fn behind_first<'b, 'a>(ports: &'b [&'a [u8]]) -> &'b [&'a [u8]]
-    ensures { result.now ≡ drop 1 ports.now }
+/// The ports without the first.
+pub fn drop_first(ports: &mut Vec<&[u8]>)
+    ensures { ports.new.items ≡ drop 1 ports.old.items }
 {
-    match ports {
-        [] => ports,
-        [_, rest @ ..] => rest,
+    if !ports.is_empty() {
+        ports.remove(0);
     }
 }
 

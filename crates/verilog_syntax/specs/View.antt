@@ -36,11 +36,8 @@ form (f.Output n) = Output n.now
 form (f.Wire n) = Wire n.now
 form (f.Reg m n) = Reg (range m) n.now
 form (f.Assign n e) = Assign n.now (expression e)
-form (f.Always a) = Always a.reset.now a.zero.now a.update.now (next a.next)
+form (f.Always a) = Always a.value.reset.now a.value.zero.now a.value.update.now (next a.value.next)
 form f.End = End
 
 abbrev pub statement : source.Statement → Statement
 statement s = record { form = form s.form; line = s.line }
-
-abbrev pub statements : List source.Statement → List Statement
-statements ss = map statement ss

@@ -186,15 +186,13 @@ fn always<'t, 'a>(alloc: Global, ws: &'t [Lexeme<'a>]) -> Found<'t, 'a, Form<'a>
     let rest = after_reset(rest)?;
     let ((reset, zero), rest) = zeroed(rest)?;
     let ((update, next), rest) = update(alloc, rest)?;
-    Ok((
-        Form::Always(Always {
-            reset,
-            zero,
-            update,
-            next,
-        }),
-        rest,
-    ))
+    let always = Always {
+        reset,
+        zero,
+        update,
+        next,
+    };
+    Ok((Form::Always(Box::new(alloc, always)?), rest))
 }
 
 /// What `endmodule` begins: the end of the text.

@@ -1,4 +1,4 @@
-//! Statements of a small part of Verilog: which statements the words of a text are, or where they are none.
+//! Statements of a small part of Verilog: which statement opens the words of a text, or where none does.
 //!
 //! `NoMemory` is answered where memory ran out.
 #![tactic(auto)]
@@ -13,7 +13,8 @@ mod words;
 mod written;
 
 pub use error::SyntaxError;
-pub use parser::statements;
+pub use parser::next_statement;
+pub use stage::Stage;
 pub use statement::{Always, Form, Statement};
 pub use written::{Next, Written};
 

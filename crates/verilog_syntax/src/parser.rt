@@ -1,12 +1,10 @@
-//! The statements that the words of a text are.
-ghost use Rattle.std.specs.Prelude.{◌≡◌, map, IfOk, IfErr};
-ghost use Rattle.rl_text.specs.Words.{lexeme};
-ghost use Rattle.verilog_text.specs.Statements.{Opens, AreStatements, AreInOrder, Start, allows, stage_after, first_line};
+//! The statements that the words of a text are, one after another.
+ghost use Rattle.std.specs.Prelude.{◌≡◌, IfOk, IfErr};
+ghost use Rattle.verilog_text.specs.Statements.{Opens, allows, stage_after, first_line};
 ghost use Rattle.verilog_text.specs.Reading.{statement_at};
-ghost use Rattle.verilog_syntax.specs.View.{statement, statements};
+ghost use Rattle.verilog_syntax.specs.View.{statement};
 ghost use Rattle.verilog_syntax.specs.View as view;
 ghost use Rattle.verilog_syntax.specs.Reads.{lexemes, stage, Gives, is_finished, LacksAt};
-ghost use Rattle.verilog_syntax.specs.Outcome.{IsFailure};
 
 use crate::error::{ReadError, SyntaxError};
 use crate::forms::form;
@@ -39,26 +37,29 @@ fn allows(current: Stage, next: &Form<'_>) -> bool
     }
 }
 
-/// What may come behind the statement.
-fn stage_after(last: &Form<'_>) -> Stage
-    ensures { stage result ≡ stage_after (view.form last.now) }
-{
-    match last {
-        Form::Header(_, _) => Stage::Declarations,
-        Form::Input(_) => Stage::Declarations,
-        Form::Output(_) => Stage::Declarations,
-        Form::Wire(_) => Stage::Declarations,
-        Form::Reg(_, _) => Stage::Declarations,
-        Form::Assign(_, _) => Stage::Actions,
-        Form::Always(_) => Stage::Actions,
-        Form::End => Stage::Finished,
+impl Stage {
+    /// What may come after the statement.
+    pub fn after(last: &Form<'_>) -> Stage
+        ensures { stage result ≡ stage_after (view.form last.now) }
+    {
+        match last {
+            Form::Header(_, _) => Stage::Declarations,
+            Form::Input(_) => Stage::Declarations,
+            Form::Output(_) => Stage::Declarations,
+            Form::Wire(_) => Stage::Declarations,
+            Form::Reg(_, _) => Stage::Declarations,
+            Form::Assign(_, _) => Stage::Actions,
+            Form::Always(_) => Stage::Actions,
+            Form::End => Stage::Finished,
+        }
     }
-}
 
-fn is_finished(current: Stage) -> bool
-    ensures { result ≡ is_finished (stage current) }
-{
-    matches!(current, Stage::Finished)
+    /// Whether the text is at its end.
+    pub fn is_finished(self) -> bool
+        ensures { result ≡ is_finished (stage self) }
+    {
+        matches!(self, Stage::Finished)
+    }
 }
 
 type Found<'t, 'a, E> = Result<(Statement<'a>, &'t [Lexeme<'a>]), E>;
@@ -96,8 +97,9 @@ fn first_line(end: u32, ws: &[Lexeme<'_>]) -> u32
     }
 }
 
-/// The statement that opens the words, or the line at which none does.
-fn opening<'t, 'a>(
+/// The statement that opens the words, one that may come at this stage, and the words after it. `At` holds the line at
+/// which none opens them; `end` is the line of the text's end.
+pub fn next_statement<'t, 'a>(
     alloc: Global,
     ws: &'t [Lexeme<'a>],
     current: Stage,
@@ -112,28 +114,4 @@ fn opening<'t, 'a>(
         Err(ReadError::Syntax) => Err(SyntaxError::At(first_line(end, ws))),
         Err(ReadError::NoMemory) => Err(SyntaxError::NoMemory),
     }
-}
-
-/// The statements that the words of a text are. `end` is the line of the text's end. `At` holds the line of the first
-/// place where none stands that may.
-pub fn statements<'a>(
-    alloc: Global,
-    words: &[Lexeme<'a>],
-    end: u32,
-) -> Result<Vec<Statement<'a>>, SyntaxError>
-    ensures statements { IfOk result (λ all. AreStatements (map lexeme words.now) (statements all.items)) }
-    ensures in_order { IfOk result (λ all. AreInOrder Start (statements all.items)) }
-    ensures failure { IfErr result (IsFailure (map lexeme words.now) end) }
-{
-    let (first, mut rest) = opening(alloc, words, Stage::Start, end)?;
-    let mut current = stage_after(&first.form);
-    let mut all = Vec::new(alloc);
-    all.push(first)?;
-    while !is_finished(current) {
-        let (next, after) = opening(alloc, rest, current, end)?;
-        current = stage_after(&next.form);
-        all.push(next)?;
-        rest = after;
-    }
-    Ok(all)
 }

@@ -19,7 +19,7 @@ pub enum Form<'a> {
     Wire(&'a [u8]),
     Reg(Option<&'a [u8]>, &'a [u8]),
     Assign(&'a [u8], Written<'a>),
-    Always(Always<'a>),
+    Always(Box<Always<'a>>),
     End,
 }
 

@@ -1,9 +1,25 @@
 use crate::error::SyntaxError;
-use crate::parser::statements;
-use rl_text::{Style, lex, lexemes, line_at};
+use crate::parser::next_statement;
+use crate::stage::Stage;
+use rl_text::{Lexeme, Style, lex, lexemes, line_at};
 use std::alloc::Global;
 use std::process::Abort;
 use std::test::Fail;
+
+// How many statements the words of a text are.
+fn count(alloc: Global, words: &[Lexeme<'_>], end: u32) -> Result<usize, SyntaxError> {
+    let (first, mut rest) = next_statement(alloc, words, Stage::Start, end)?;
+    let mut current = Stage::after(&first.form);
+    for count in 1..words.len() {
+        if current.is_finished() {
+            return Ok(count);
+        }
+        let (next, after) = next_statement(alloc, rest, current, end)?;
+        current = Stage::after(&next.form);
+        rest = after;
+    }
+    Err(SyntaxError::At(end))
+}
 
 // How many statements a text has, or 0 and the line at which none stands that may.
 fn outcome(rt: &impl Abort, alloc: Global, text: &[u8]) -> Result<(usize, u32), Fail> {
@@ -13,8 +29,8 @@ fn outcome(rt: &impl Abort, alloc: Global, text: &[u8]) -> Result<(usize, u32), 
         Err(_) => return Ok((0, 0)),
     };
     let words = lexemes(alloc, text, &tokens)?;
-    match statements(alloc, &words, line_at(text, text.len() as u32)) {
-        Ok(all) => Ok((all.len(), 0)),
+    match count(alloc, &words, line_at(text, text.len() as u32)) {
+        Ok(count) => Ok((count, 0)),
         Err(SyntaxError::At(line)) => Ok((0, line)),
         Err(SyntaxError::NoMemory) => Ok((0, 0)),
     }

@@ -1,6 +1,6 @@
 use Rattle.verilog_syntax.specs.Reads.{lexemes, stage}
 use Rattle.verilog_syntax.proofs.Leading.{none_opens}
-use Rattle.verilog_syntax.proofs.parser.opening.Goals as goal
+use Rattle.verilog_syntax.proofs.parser.next_statement.Goals as goal
 
 pub returns-in-Err-Syntax-clause-lacks : goal.returns-in-Err-Syntax-clause-lacks
 returns-in-Err-Syntax-clause-lacks c =
