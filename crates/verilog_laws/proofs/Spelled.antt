@@ -1,9 +1,10 @@
--- A text with tokens spells a module or breaks a rule first; and what it spells is valid.
+-- A text spells a module or breaks a rule first; and what it spells is valid.
 use Rattle.std.proofs.Common.{◌≡◌, ◌≢◌, ℕ, zero, suc, ◌+◌, ◌≤◌, ◌<◌, Bool, true, false, List, [], ◌∷◌, ◌++◌, length, Option, Some, None, refl, sym, ap, subst, ◌∙◌, arith, inl, inr, ◌⊎◌, length-append}
 use Rattle.std.specs.Prelude.{take}
 use Rattle.rl_text.specs.declared.token.Token.{Token}
 use Rattle.rl_text.specs.declared.token.Style.TheVariants as style
 use Rattle.rl_text.specs.Tokens.{line_behind, AreTokens, IsBad}
+use Rattle.rl_text.specs.Cursor.{HasTokens}
 use Rattle.rl_text.specs.Lexemes.{Lexeme, lexemes}
 use Rattle.circuit.specs.Circuit.{Circuit}
 use Rattle.circuit.specs.Valid.{IsValid}
@@ -14,7 +15,7 @@ use Rattle.verilog_text.specs.Statements.{Statement, Stage, Start, Declarations,
 use Rattle.verilog_text.specs.Reading.{statement_at}
 use Rattle.verilog_text.specs.Judging.{SoFar, nothing_yet, after, first_of, first_rule, breaks_name, breaks_order, breaks_width, breaks_limit, module_of}
 use Rattle.verilog_text.specs.Spelling.{AllStand, FirstBroken, AreModule, SpellsModule, BreaksFirst, IsBroken}
-use Rattle.verilog_laws.specs.Answers.{Lexes, HasAnswer}
+use Rattle.verilog_laws.specs.Answers.{HasAnswer}
 use Rattle.verilog_laws.proofs.Parts.{statements_valid}
 
 -- ---- what is spelled is valid
@@ -131,7 +132,7 @@ module _ (opened : Opened) (again : ReadAgain) where
     | inr j ↦ inr (j.0, j.1, named text j.0 j.1 (record { tokens = tokens; lexed = lexed; statements = p.0; are = p.1; first = j.2 }))
   ]
 
-  pub has_answer : (text : List ℕ) → Lexes text → HasAnswer text
+  pub has_answer : (text : List ℕ) → HasTokens style.Verilog text ⊎ ((p : ℕ) × IsBad style.Verilog text p) → HasAnswer text
   has_answer text (inl t) =
-      answered text t.0 t.1 (parsed (suc (length (lexemes text t.0))) Start (lexemes text t.0) (omega arith) (λ e. cc))
+      answered text t.tokens t.lexed (parsed (suc (length (lexemes text t.tokens))) Start (lexemes text t.tokens) (omega arith) (λ e. cc))
   has_answer text (inr b) = inr (rule.Syntax, line_behind (take b.0 text), inl (record { place = b.0; bad = b.1; number = refl }))

@@ -12,11 +12,11 @@ ghost use Rattle.verilog_text.specs.Judging.{SoFar, nothing_yet, after, first_ru
 ghost use Rattle.verilog_text.specs.Spelling.{AreModule, SpellsModule};
 ghost use Rattle.verilog_text.specs.Statements.{Statement, AreStatements};
 ghost use Rattle.verilog_text.specs.Text.{module_text};
-ghost use Rattle.verilog_laws.specs.Answers.{Lexes, HasAnswer};
+ghost use Rattle.verilog_laws.specs.Answers.{HasAnswer};
 ghost use Rattle.verilog_laws.specs.Sound.{IsSound};
 
 use circuit::laws::one_history;
-use rl_text::front_is_longest;
+use rl_text::{bad_where_no_tokens, front_is_longest};
 use verilog_text::spelling_laws::reading_is_opening;
 
 /// The text of a module spells it, where at most 64 of `~` and `(` are nested.
@@ -50,9 +50,10 @@ pub fn spelled_has_one_history()
     one_history();
 }
 
-/// A text that has tokens or a bad byte spells a module or breaks a rule first.
+/// Each text spells a module, or breaks a rule first.
 pub fn spells_or_breaks()
-    ensures { (text : List ℕ) → Lexes text → HasAnswer text }
+    ensures { (text : List ℕ) → HasAnswer text }
 {
+    bad_where_no_tokens();
     reading_is_opening();
 }
