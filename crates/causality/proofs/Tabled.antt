@@ -34,9 +34,6 @@ use Rattle.causality.proofs.Once.{row_is, row_same, any_member, walk_rows, walk_
 
 -- ---- names
 
-pub all_taken : {X : Type 0} (xs : List X) (i : ℕ) → length xs ≤ i → take i xs ≡ xs
-all_taken xs i le = take_all i xs le
-
 name_at : (es : List Equation) (k : ℕ) (e : Equation) → k < length es → e ≡ get_or es k e → e.name ≡ slice_index_or (names_of es) k []
 name_at [] k e lt h = absurd (omega (arith, lt))
 name_at (d ∷ es) zero e lt h = ap (λ x. x.name) h

@@ -36,7 +36,10 @@ impl fmt::Display for RowFault {
     fn fmt<W: fmt::Write>(&self, f: &mut fmt::Formatter<W>) -> fmt::Result {
         match self {
             RowFault::NoZero(row) => write!(f, "row {row} has no entry 0"),
-            RowFault::Acausal(row, place) => write!(f, "entry {place} of row {row} is greater than its output"),
+            RowFault::Acausal(row, place) => write!(
+                f,
+                "entry {place} of row {row} is greater than its output"
+            ),
             RowFault::Same(a, b) => write!(f, "rows {a} and {b} are the same"),
             RowFault::Conflict(a, b) => write!(f, "rows {a} and {b} match the same times"),
         }

@@ -2,7 +2,7 @@
 //!
 //! Causal and invariant functions are those of Smith, *Space-Time Algebra* (ISCA 2018).
 //!
-//! `NoMemory` is answered where memory ran out.
+//! `NoMemory` is reported where memory ran out.
 #![tactic(auto)]
 
 mod checking;

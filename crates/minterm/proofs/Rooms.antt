@@ -13,11 +13,5 @@ room_then a b c j k m le p q = record { places = omega (arith, le, p.places, q.p
 pub room_after : (a b : Contents) (j k m : ℕ) → j + k ≤ m → HasRoom a m → TakesRoom a b j → HasRoom b k
 room_after a b j k m le r t = record { places = omega (arith, le, r.places, t.places); memory = omega (arith, le, r.memory, t.memory) }
 
-pub room_less : (s : Contents) (j k : ℕ) → j ≤ k → HasRoom s k → HasRoom s j
-room_less s j k h r = record { places = omega (arith, h, r.places); memory = omega (arith, h, r.memory) }
-
-pub takes_less : (a b : Contents) (j k : ℕ) → j ≤ k → TakesRoom a b j → TakesRoom a b k
-takes_less a b j k h t = record { places = omega (arith, h, t.places); memory = omega (arith, h, t.memory) }
-
 pub one_node : (a b : Contents) → length b.nodes ≤ length a.nodes + 1 → a.spare ≤ b.spare + 1 → TakesRoom a b 1
 one_node a b h g = record { places = h; memory = g }

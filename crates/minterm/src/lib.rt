@@ -1,6 +1,6 @@
 //! Synthesis of tables: the term that has the table's values, after Smith (Space-Time Algebra, ISCA 2018).
 //!
-//! `NoMemory` is answered where memory ran out.
+//! `NoMemory` is reported where memory ran out.
 #![tactic(auto)]
 
 mod join;

@@ -24,7 +24,7 @@ use Rattle.rl_text.specs.NameMap.{find, AddsName}
 use Rattle.net_lang.specs.Known.{known, known_by, known_in, Measures, HasSmallPlace, IsSmall, span_at, found_formula, found_span, finds_all, written_joins, written_delays}
 use Rattle.net_lang.specs.Draft.{net_of, so_far, known_as, outputs_in, rule_by, IsSound, IsPart, IsDraft, Adds}
 use Rattle.net_lang.proofs.Sound.{keeps}
-use Rattle.net_lang.proofs.Partial.{part_after, no_part}
+use Rattle.net_lang.proofs.Partial.{part_after}
 use Rattle.net_lang.proofs.Knowing.{IsNew, place_low, formulas, spans, known_all, known_declared, resolved_joins, resolved_delays, is_new, known_let, known_output, or_false}
 
 -- ---- a draft's look-up is small
@@ -174,18 +174,6 @@ module _ (d : source.Draft) (k : Target) (name : List ℕ) (t : Expression) (m :
             part = subst IsPart (sym now) part;
           };
         }
-
--- ---- no lines
-
-pub nothing_kept : (d : source.Draft) → ((t : List ℕ) → find d.scope t ≡ None) → so_far d ≡ nothing_yet → d.joins ≡ 0 → d.delays ≡ 0 → IsDraft d
-nothing_kept d none e js ds =
-    let same : net_of d ≡ net [] [] [] = ap (λ (s : SoFar). s.net) e in
-    record {
-      names = λ t. none t ∙ ap (λ (n : Net). known_in n t) (sym same);
-      joins = js ∙ ap joins_in (sym same);
-      delays = ds ∙ ap delays_in (sym same);
-      part = subst IsPart (sym e) no_part;
-    }
 
 pub found_is : (d : source.Draft) (t : Expression) → IsDraft d → found_formula (find d.scope) t ≡ resolved (net_of d) t
 found_is d t h = ap (λ (g : List ℕ → Option Known). found_formula g t) (looks d h) ∙ formulas (net_of d) t

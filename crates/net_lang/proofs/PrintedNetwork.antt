@@ -146,5 +146,5 @@ writes decimals n h = writes_network n (names_are n.inputs (ports_are_lets n.inp
 
 -- what is written with the lines of forms that break no rule spells what they are
 pub printed : ((spelled : Form → List Word) → ((x : Form) → IsOneLine (spelled x)) → (text : List ℕ) (xs : List Form) (last : SoFar) → Writes text (words_on spelled xs) → AllKeep networks spelled nothing_yet xs last
-      → may_end last.stage ≡ true → SpellsNetwork text last.net) → DecimalsAreNumbers → (n : Net) → IsNetwork n → SpellsNetwork (network_text n) n
+    → may_end last.stage ≡ true → SpellsNetwork text last.net) → DecimalsAreNumbers → (n : Net) → IsNetwork n → SpellsNetwork (network_text n) n
 printed spell decimals n h = spell spelled_form one_line (network_text n) (forms n) (place stage.Outputs n) (writes decimals n h) (all_keep decimals n h) refl

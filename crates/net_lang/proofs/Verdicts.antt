@@ -18,16 +18,6 @@ use Rattle.net_lang.proofs.FormLemmas.{form_some, form_again}
 pub is_read : IsRead networks form_at
 is_read = record { sound = form_some; complete = form_again }
 
--- a line adds at most one let
-extended_lets : (n : Net) (f : Form) → length (extended n f).lets ≤ length n.lets + 1
-extended_lets n Header = omega arith
-extended_lets n (Inputs names) = omega arith
-extended_lets n (Define target.Let name t) = let l = length-append n.lets (equation n name t ∷ []) in omega (arith, l)
-extended_lets n (Define target.Output name t) = omega arith
-
-pub grows : (d new : source.Draft) (f : Form) → so_far new ≡ after (so_far d) f → length new.lets.items ≤ length d.lets.items + 1
-grows d new f e = let a = ap (λ (s : SoFar). length s.net.lets) e in let b = extended_lets (net_of d) f in omega (arith, a, b)
-
 -- ---- a header
 
 pub header_kept : (d new : source.Draft) → IsDraft d → allows d.stage Header ≡ true → new ≡ record d { stage = stage.Header } → (first_rule (net_of d) Header ≡ None) × Adds d Header new

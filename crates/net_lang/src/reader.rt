@@ -17,7 +17,9 @@ mod written;
 
 pub use draft::Draft;
 pub use error::NetError;
-pub use laws::{a_network_or_a_cause, no_cause, one_cause, one_network, what_is_spelled_is_a_network};
+pub use laws::{
+    a_network_or_a_cause, no_cause, one_cause, one_network, what_is_spelled_is_a_network,
+};
 pub use network::read_network;
 pub use rules::Rule;
 

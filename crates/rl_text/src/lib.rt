@@ -1,6 +1,6 @@
 //! Names and tokens, as the files of racelog write them.
 //!
-//! `NoMemory` is answered where memory ran out.
+//! `NoMemory` is reported where memory ran out.
 #![tactic(auto)]
 
 mod bytes;

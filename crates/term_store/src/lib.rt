@@ -1,6 +1,6 @@
 //! A store of shared terms: each distinct node once, in the order of the first insertion.
 //!
-//! `NoMemory` is answered where memory ran out.
+//! `NoMemory` is reported where memory ran out.
 #![tactic(auto)]
 
 mod build;

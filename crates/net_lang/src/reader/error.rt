@@ -23,7 +23,10 @@ impl fmt::Display for NetError {
             NetError::Span(line) => write!(f, "line {line}: a span over 1,000,000 cycles"),
             NetError::Doubled(line) => write!(f, "line {line}: a name that is declared already"),
             NetError::Unknown(line) => write!(f, "line {line}: an unknown name"),
-            NetError::Count(line) => write!(f, "line {line}: too many inputs, outputs or operators"),
+            NetError::Count(line) => write!(
+                f,
+                "line {line}: too many inputs, outputs or operators"
+            ),
             NetError::NoMemory => write!(f, "out of memory"),
         }
     }

@@ -1,15 +1,14 @@
-ghost use Rattle.std.specs.Prelude.{◌≡◌, ◌<◌, map, length, IfOk};
-ghost use Rattle.rl_text.specs.Words.{words};
+ghost use Rattle.std.specs.Prelude.{◌≡◌, map};
 ghost use Rattle.net_lang.specs.FormReading.{is_name, name_at, names_at, binding_at, is_one, form_at};
-ghost use Rattle.net_lang.specs.Written.{expression, Gives};
+ghost use Rattle.net_lang.specs.Written.{expression, Gives, Takes};
 ghost use Rattle.net_lang.specs.FormView.{form};
 
-use super::reading::{after_sign, expr};
+use super::reading::{expr, take_sign};
 use super::rules::{Rule, Target};
 use super::written::Written;
 use line_lang::LineError;
 use net_model::MOST_NESTING;
-use rl_text::{Kind, Word};
+use rl_text::{Kind, LineWords};
 use std::alloc::Global;
 
 /// A line as it is written.
@@ -20,34 +19,34 @@ pub enum Form<'a> {
     Define(Target, &'a [u8], Written<'a>),
 }
 
-#[tactic(auto, unfolding(crate::specs::FormReading::name_at))]
-fn name_at<'t, 'a>(ws: &'t [Word<'a>]) -> Result<(&'a [u8], &'t [Word<'a>]), LineError<Rule>>
-    ensures value { Gives (λ x. (x.0.now, words x.1.now)) result (name_at (words ws.now)) }
-    ensures shorter { IfOk result (λ x. length x.1.now < length ws.now) }
-{
-    match ws {
-        [] => Err(LineError::Broken(Rule::Syntax)),
-        [w, rest @ ..] => {
-            if matches!(w.kind, Kind::Name) {
-                Ok((w.bytes, rest))
-            } else {
-                Err(LineError::Broken(Rule::Syntax))
-            }
-        }
-    }
-}
-
 fn is_name(kind: Kind) -> bool
     ensures { result ≡ is_name kind }
 {
     matches!(kind, Kind::Name)
 }
 
-fn names_at<'a>(alloc: Global, ws: &[Word<'a>]) -> Result<Vec<&'a [u8]>, LineError<Rule>>
-    ensures { Gives (λ v. map (λ n. n.now) v.items) result (names_at (words ws.now)) }
+/// Takes a name.
+#[tactic(auto, unfolding(crate::specs::FormReading::name_at))]
+fn take_name<'a>(words: &mut LineWords<'a>) -> Result<&'a [u8], LineError<Rule>>
+    ensures { Takes (λ x. x.now) result words.new (name_at words.old) }
 {
+    let Some(w) = words.next() else {
+        return Err(LineError::Broken(Rule::Syntax));
+    };
+    if is_name(w.kind) {
+        Ok(w.bytes)
+    } else {
+        Err(LineError::Broken(Rule::Syntax))
+    }
+}
+
+/// The bytes of words that are all names.
+fn names_at<'a>(alloc: Global, words: LineWords<'a>) -> Result<Vec<&'a [u8]>, LineError<Rule>>
+    ensures { Gives (λ v. map (λ n. n.now) v.items) result (names_at words.entry) }
+{
+    let mut rest = words;
     let mut names = Vec::new(alloc);
-    for w in ws {
+    while let Some(w) = rest.next() {
         if !is_name(w.kind) {
             return Err(LineError::Broken(Rule::Syntax));
         }
@@ -57,36 +56,43 @@ fn names_at<'a>(alloc: Global, ws: &[Word<'a>]) -> Result<Vec<&'a [u8]>, LineErr
 }
 
 #[tactic(auto, unfolding(crate::specs::FormReading::binding_at))]
-fn binding_at<'a>(alloc: Global, ws: &[Word<'a>]) -> Result<(&'a [u8], Written<'a>), LineError<Rule>>
-    ensures { Gives (λ x. (x.0.now, expression x.1)) result (binding_at (words ws.now)) }
+fn binding_at<'a>(
+    alloc: Global,
+    words: LineWords<'a>,
+) -> Result<(&'a [u8], Written<'a>), LineError<Rule>>
+    ensures { Gives (λ x. (x.0.now, expression x.1)) result (binding_at words.entry) }
 {
-    let (name, rest) = name_at(ws)?;
-    let rest = after_sign(rest, b"=")?;
-    let (body, rest) = expr(alloc, rest, MOST_NESTING)?;
-    match rest {
-        [] => Ok((name, body)),
-        [_, ..] => Err(LineError::Broken(Rule::Syntax)),
+    let mut rest = words;
+    let name = take_name(&mut rest)?;
+    take_sign(&mut rest, b"=")?;
+    let body = expr(alloc, &mut rest, MOST_NESTING)?;
+    if rest.next().is_some() {
+        return Err(LineError::Broken(Rule::Syntax));
     }
+    Ok((name, body))
 }
 
-fn is_one(ws: &[Word<'_>]) -> bool
-    ensures { result ≡ is_one (words ws.now) }
+/// Whether the words are the number 1.
+fn is_one(words: LineWords<'_>) -> bool
+    ensures { result ≡ is_one words.entry }
 {
-    match ws {
-        [w] => matches!(w.kind, Kind::Number) && w.bytes == b"1".as_slice(),
-        _ => false,
-    }
+    let mut rest = words;
+    let Some(w) = rest.next() else {
+        return false;
+    };
+    matches!(w.kind, Kind::Number) && w.bytes == b"1".as_slice() && rest.next().is_none()
 }
 
-/// The form that the words of a line are.
+/// The form of a line.
 #[tactic(auto, unfolding(crate::specs::FormReading::form_at))]
-pub fn form_at<'a>(alloc: Global, ws: &[Word<'a>]) -> Result<Form<'a>, LineError<Rule>>
-    ensures { Gives form result (form_at (words ws.now)) }
+pub fn form_at<'a>(alloc: Global, line: LineWords<'a>) -> Result<Form<'a>, LineError<Rule>>
+    ensures { Gives form result (form_at line.entry) }
 {
-    let [first, rest @ ..] = ws else {
+    let mut rest = line;
+    let Some(first) = rest.next() else {
         return Err(LineError::Broken(Rule::Syntax));
     };
-    if !matches!(first.kind, Kind::Name) {
+    if !is_name(first.kind) {
         return Err(LineError::Broken(Rule::Syntax));
     }
     let word = first.bytes;

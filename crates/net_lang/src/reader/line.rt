@@ -33,7 +33,11 @@ fn read_header(draft: &mut Draft<'_>) -> Result<(), LineError<Rule>>
 }
 
 /// Judges a form that its place allows, and keeps it where it breaks no rule.
-fn read_form<'a>(alloc: Global, draft: &mut Draft<'a>, line: &Form<'a>) -> Result<(), LineError<Rule>>
+fn read_form<'a>(
+    alloc: Global,
+    draft: &mut Draft<'a>,
+    line: &Form<'a>,
+) -> Result<(), LineError<Rule>>
     requires draft { IsDraft draft.old }
     requires lets { length draft.old.lets.items < 2 ^ 31 }
     requires allowed { allows draft.old.stage (form line.now) ≡ true }
@@ -81,8 +85,7 @@ impl<'a> LineReader<'a> for Draft<'a> {
     }
 
     fn form_at(alloc: Global, line: LineWords<'a>) -> Result<Form<'a>, LineError<Rule>> {
-        let words = line.collect(alloc)?;
-        form_at(alloc, &words)
+        form_at(alloc, line)
     }
 
     fn allows(&self, line: &Form<'a>) -> bool {
