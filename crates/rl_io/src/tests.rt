@@ -139,11 +139,11 @@ fn loads_up_to_the_limit(rt: HostRuntime) -> Result<(), Fail> {
 
 #[test]
 fn loads_by_large_pieces(rt: HostRuntime) -> Result<(), Fail> {
-    let bytes = vec![in rt.alloc(); 7u8; 150_000]?;
+    let bytes = vec![in rt.alloc(); 7u8; 2_200_000]?;
     // Three fetches for the bytes, and one that finds the end.
-    for (fails, want) in [(4, Err(LoadError::Fault)), (5, Ok(150_000))] {
-        let mut shelf = shelf_of(&rt, rt.alloc(), &bytes, 1_000_000, &[fails])?;
-        match load(rt.alloc(), &mut shelf, "a", 1_048_576) {
+    for (fails, want) in [(4, Err(LoadError::Fault)), (5, Ok(2_200_000))] {
+        let mut shelf = shelf_of(&rt, rt.alloc(), &bytes, 2_000_000, &[fails])?;
+        match load(rt.alloc(), &mut shelf, "a", 3_000_000) {
             Ok(text) => assert_eq!(rt; Ok(text.len()), want),
             Err(error) => assert_eq!(rt; Err(error), want),
         }
