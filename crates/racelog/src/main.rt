@@ -2,13 +2,13 @@
 //! call, and ends with its status.
 #![tactic(auto)]
 
-use rl_flow::{Status, run};
+use rl_flow::{Refusal, line, run};
 use rl_io::{FileShelf, StdSink, put_all};
 use std::alloc::AllocError;
 use std::env;
 use std::process::ExitCode;
 
-/// The words behind the program's name. Where they are no text, one empty word, which is no command.
+/// The arguments. If one isn't UTF-8, a single empty word, which no command accepts.
 fn words(rt: &HostRuntime) -> Result<Vec<String>, AllocError> {
     let alloc = rt.alloc();
     match env::args(rt) {
@@ -28,8 +28,9 @@ fn main(rt: HostRuntime) -> ExitCode {
     let status = match words(&rt) {
         Ok(words) => run(rt.alloc(), words.as_slice(), &mut shelf, &mut out, &mut err),
         Err(_) => {
-            let _ = put_all(&mut err, b"racelog: no memory\n");
-            Status::NoMemory
+            let refusal = Refusal::NoMemory;
+            let _ = put_all(&mut err, line(refusal).as_bytes());
+            refusal.status()
         }
     };
     ExitCode::from(status.code())

@@ -1,21 +1,17 @@
 -- The times that words ask for.
 use Rattle.std.proofs.Common.{◌≡◌, ℕ, ◌<◌, ◌≤◌, ◌^◌, Bool, true, false, List, [], ◌∷◌, length, map, refl, sym, ap, subst, ◌∙◌, arith, Option, Some, None}
 use Rattle.std.specs.Prelude.{nat_le, codes, decimal, slice_index_or, String, string_bytes}
-use Rattle.std.specs.List.{list_all}
 use Rattle.std.specs.declared.alloc.Global.{Global}
-use Rattle.std.proofs.lemmas.List.Folds.{list_all-map}
 use Rattle.std.specs.Str.{bytes_eq}
 use Rattle.std.specs.Str.Parse.{IsNumeral, digits_value}
 use Rattle.std.proofs.lemmas.Bool.{le-leb, leb-true}
 use Rattle.std.proofs.lemmas.Fmt.{decimal_is_IsNumeral}
-use Rattle.std.proofs.lemmas.List.Elements.{All-map}
 use Rattle.std.proofs.lemmas.Slice.Eq.{bytes_eq-Decides}
 use Rattle.rl_time.specs.declared.time.Time.{Time}
 use Rattle.rl_time.specs.declared.time.Time.TheVariants as time
 use Rattle.rl_time.specs.Text.{time_text, FitsIn64Bits}
-use Rattle.net_model.specs.Early.{IsAtMost, AreEarly}
 use Rattle.rl_flow.specs.Task.{command_of}
-use Rattle.rl_flow.specs.Words.{number_word, time_word, is_time_word, time_of}
+use Rattle.rl_flow.specs.Words.{number_word, time_word}
 
 -- r is what a reader gives of each text that some time has
 abbrev pub Reads : List ℕ → Option Time → Type 0
@@ -67,21 +63,6 @@ late n great = over _ refl where
   over : (q : Bool) → nat_le n 1000000000000 ≡ q → nat_le n 1000000000000 ≡ false
   over true f = absurd (let small = leb-true n 1000000000000 f in omega (arith, small, great))
   over false f = f
-
--- each time that a word asks for is early
-is_early : (word : List ℕ) (p q s : Bool) → bytes_eq word (codes "never") ≡ p → nat_le (digits_value 10 word) 1000000000000 ≡ q → bytes_eq word (decimal (digits_value 10 word)) ≡ s →
-    IsAtMost 1000000000000 (time_of word)
-is_early word true q s p' q' s' = rw (p') tt
-is_early word false false s p' q' s' = rw (p', q') tt
-is_early word false true false p' q' s' = rw (p', q', s') tt
-is_early word false true true p' q' s' = rw (p', q', s') (leb-true (digits_value 10 word) 1000000000000 q')
-
-pub are_early : (words : List (List ℕ)) → AreEarly (map time_of words)
-are_early words = All-map (IsAtMost 1000000000000) time_of words (λ k d l. is_early (slice_index_or words k d) _ _ _ refl refl refl)
-
--- a test of the words' texts
-pub all_texts : (words : List (String Global)) → list_all is_time_word (map string_bytes words) ≡ list_all (λ w. is_time_word (string_bytes w)) words
-all_texts words = list_all-map is_time_word string_bytes words
 
 -- ---- numbers
 

@@ -1,6 +1,4 @@
-pub mod Right
-pub mod Putting
-pub mod Judging
-pub mod Ending
 pub mod Asking
-pub mod Tabulated
+pub mod Ending
+pub mod Judging
+pub mod Loads

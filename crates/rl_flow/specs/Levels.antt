@@ -1,13 +1,13 @@
--- The levels of a module's outputs, as they are told.
+-- The levels of a module's outputs, as they are written.
 use Rattle.std.specs.Prelude.{◌≡◌, ◌≢◌, ◌⊎◌, ℕ, List, [], ◌∷◌, ◌++◌, length, codes}
 use Rattle.rl_time.specs.declared.time.Time.{Time}
 use Rattle.verilog_text.specs.declared.rule.Rule.{Rule}
-use Rattle.verilog_text.specs.Circuit.{Circuit}
-use Rattle.verilog_text.specs.Meaning.{State, IsHistory, HasOneHistory, levels_from}
+use Rattle.circuit.specs.Circuit.{Circuit}
+use Rattle.circuit.specs.Meaning.{State, IsHistory, HasOneHistory, levels_from}
 use Rattle.verilog_text.specs.Spelling.{SpellsModule, IsBroken}
 use Rattle.cycle_sim.specs.Digits.{output_rows}
-use Rattle.rl_flow.specs.declared.fault.Fault.{Fault}
-use Rattle.rl_flow.specs.declared.fault.Fault.TheVariants as fault
+use Rattle.rl_jobs.specs.declared.fault.Fault.{Fault}
+use Rattle.rl_jobs.specs.declared.fault.Fault.TheVariants as fault
 
 -- a line for an output: its name, a space, a digit for each cycle
 abbrev pub level_line : List ℕ → List ℕ → List ℕ
@@ -19,7 +19,7 @@ level_lines [] rows = []
 level_lines (name ∷ names) [] = []
 level_lines (name ∷ names) (row ∷ rows) = level_line name row ++ level_lines names rows
 
--- The bytes spell a module of as many inputs as there are times, and the text tells the levels of each output in the first cycles after
+-- The bytes spell a module of as many inputs as there are times, and the text has the levels of each output in the first cycles after
 -- reset, where each input rises at its time: those of the states of the module's one history.
 pub record IsLevelText (cycles : ℕ) (times : List Time) (bytes text : List ℕ) : Type 0 where
   pub circuit : Circuit
@@ -34,11 +34,11 @@ pub record IsLevelText (cycles : ℕ) (times : List Time) (bytes text : List ℕ
 abbrev pub CanBeSimulated : List Time → List ℕ → Type 0
 CanBeSimulated times bytes = (m : Circuit) × SpellsModule bytes m × (length times ≡ length m.inputs)
 
--- the bytes spell no module: the fault tells the rule that they break first, and its line
+-- the bytes spell no module: the fault is the rule that they break first, and its line
 abbrev pub IsNoModule : List ℕ → Fault → Type 0
-IsNoModule bytes f = (r : Rule) × (line : ℕ) × (f ≡ fault.Module r line) × IsBroken bytes r line
+IsNoModule bytes f = (r : Rule) × (line : ℕ) × (f ≡ fault.Module 1 r line) × IsBroken bytes r line
 
--- the module has another number of inputs, which the fault tells
+-- the module has another number of inputs, which the fault holds
 abbrev pub HasOtherPorts : List Time → Circuit → Fault → Type 0
 HasOtherPorts times m f = (f ≡ fault.Inputs (length m.inputs)) × (length m.inputs ≢ length times)
 

@@ -2,11 +2,9 @@ pub mod Status
 pub mod Words
 pub mod Task
 pub mod Request
-pub mod Sources
-pub mod Values
-pub mod Synthesised
-pub mod Windows
+pub mod Asked
 pub mod Levels
-pub mod Refusal
-pub mod Compiled
 pub mod Answers
+pub mod Jobs
+pub mod Message
+pub mod Outcome

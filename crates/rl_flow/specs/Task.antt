@@ -1,12 +1,12 @@
 -- What words ask for.
-use Rattle.std.specs.Prelude.{ℕ, ◌&&◌, if◌then◌else◌, List, [], ◌∷◌, map, codes, Option, Some, None}
+use Rattle.std.specs.Prelude.{ℕ, ◌&&◌, if◌then◌else◌, List, [], ◌∷◌, codes, Option, Some, None}
 use Rattle.std.specs.Option.{option_map}
 use Rattle.std.specs.Str.{bytes_eq}
 use Rattle.std.specs.Str.Parse.{digits_value}
 use Rattle.rl_time.specs.declared.time.Time.{Time}
-use Rattle.rl_flow.specs.Words.{is_file_word, is_number_word, is_cycles_word, is_name_word, time_of, are_time_words}
+use Rattle.rl_flow.specs.Words.{is_file_word, is_number_word, is_cycles_word, is_name_word, times_of}
 
--- what is to be done with a file: compile its source; evaluate its source at times; write the network of its table; write the
+-- What is to be done with files: compile its source; evaluate its source at times; write the network of its table; write the
 -- table of its network's output of this name, on times up to a number; simulate its module for some cycles, with inputs that
 -- rise at times
 pub data Task : Type 0 where
@@ -16,9 +16,10 @@ pub data Task : Type 0 where
   Tabulate : List ℕ → ℕ → Task
   Sim : ℕ → List Time → Task
 
--- a file and what is to be done with it
-abbrev pub Command : Type 0
-Command = List ℕ × Task
+-- the names of the files, in order, and what is to be done with them
+pub record Command : Type 0 where
+  pub files : List (List ℕ)
+  pub task : Task
 
 -- the task, where no words are left
 abbrev pub alone : Task → List (List ℕ) → Option Task
@@ -27,7 +28,7 @@ alone task (w ∷ words) = None
 
 -- TIME..
 abbrev pub eval_task : List (List ℕ) → Option Task
-eval_task words = if are_time_words words then Some (Eval (map time_of words)) else None
+eval_task words = option_map Eval (times_of words)
 
 -- NAME WINDOW
 abbrev pub tabulate_task : List (List ℕ) → Option Task
@@ -39,11 +40,10 @@ tabulate_task [] = None
 
 -- CYCLES TIME..
 abbrev pub sim_task : List (List ℕ) → Option Task
-sim_task (cycles ∷ times) =
-    if is_cycles_word cycles && are_time_words times then Some (Sim (digits_value 10 cycles) (map time_of times)) else None
+sim_task (cycles ∷ times) = if is_cycles_word cycles then option_map (Sim (digits_value 10 cycles)) (times_of times) else None
 sim_task [] = None
 
--- the task of a command's first word and of those behind its file
+-- the task of a command's first word and of the words after its file
 abbrev pub task_of : List ℕ → List (List ℕ) → Option Task
 task_of command words =
     if bytes_eq command (codes "compile") then alone Compile words
@@ -57,6 +57,6 @@ task_of command words =
 -- or `sim FILE CYCLES TIME..`.
 unfoldable pub command_of : List (List ℕ) → Option Command
 command_of (command ∷ file ∷ words) =
-    if is_file_word file then option_map (λ task. (file, task)) (task_of command words) else None
+    if is_file_word file then option_map (λ task. record { files = file ∷ []; task = task }) (task_of command words) else None
 command_of (a ∷ []) = None
 command_of [] = None

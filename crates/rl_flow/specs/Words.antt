@@ -1,5 +1,6 @@
 -- The words of a command.
-use Rattle.std.specs.Prelude.{ℕ, Bool, not, ◌&&◌, ◌||◌, ◌==◌, nat_le, if◌then◌else◌, List, length, map, codes, decimal, slice_index_or, Option, Some, None, is_some, unwrap_or, String, string_bytes}
+use Rattle.std.specs.Prelude.{ℕ, Bool, not, ◌&&◌, ◌||◌, ◌==◌, nat_le, if◌then◌else◌, List, [], ◌∷◌, length, map, codes, decimal, slice_index_or, Option, Some, None, String, string_bytes}
+use Rattle.std.specs.Option.{option_map}
 use Rattle.std.specs.List.{list_all}
 use Rattle.std.specs.Str.{bytes_eq}
 use Rattle.std.specs.Str.Parse.{digits_value}
@@ -26,16 +27,18 @@ time_word word =
     else if is_number_word 1000000000000 word then Some (At (digits_value 10 word))
     else None
 
-abbrev pub is_time_word : List ℕ → Bool
-is_time_word word = is_some (time_word word)
+abbrev pub before : Option Time → Option (List Time) → Option (List Time)
+before None rest = None
+before (Some t) rest = option_map (λ ts. t ∷ ts) rest
 
--- the same time, and never for a word that writes none
-abbrev pub time_of : List ℕ → Time
-time_of word = unwrap_or (time_word word) Never
+-- the times that words write, in order, if each of them writes one
+abbrev pub written_times : List (List ℕ) → Option (List Time)
+written_times [] = Some []
+written_times (word ∷ words) = before (time_word word) (written_times words)
 
--- 1 to 64 words, and each writes a time
-abbrev pub are_time_words : List (List ℕ) → Bool
-are_time_words words = nat_le 1 (length words) && nat_le (length words) 64 && list_all is_time_word words
+-- the same of 1 to 64 words
+abbrev pub times_of : List (List ℕ) → Option (List Time)
+times_of words = if nat_le 1 (length words) && nat_le (length words) 64 then written_times words else None
 
 abbrev is_between : ℕ → ℕ → ℕ → Bool
 is_between low high b = nat_le low b && nat_le b high

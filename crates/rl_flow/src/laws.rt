@@ -1,46 +1,41 @@
-//! What is said of a file's bytes is said but once.
-ghost use Rattle.std.specs.Prelude.{◌≡◌, ℕ, List};
+//! Texts have at most one fault for which a task is refused, and none where it can be done; and a module's text is read as
+//! at most one module.
+ghost use Rattle.std.specs.Prelude.{◌≡◌, ℕ, List, length};
+ghost use Rattle.rl_time.specs.declared.time.Time.{Time};
+ghost use Rattle.verilog_text.specs.Spelling.{SpellsModule};
+ghost use Rattle.rl_jobs.specs.Readings.{IsReading};
+ghost use Rattle.rl_jobs.specs.declared.fault.Fault.{Fault};
+ghost use Rattle.rl_flow.specs.Levels.{IsNoModule, IsNotSimulated};
 ghost use Rattle.rl_flow.specs.Task.{Task};
 ghost use Rattle.rl_flow.specs.Answers.{CanBeDone, IsCause};
-ghost use Rattle.rl_flow.specs.declared.fault.Fault.{Fault};
 
-use causality::{one_row_fault, one_window_cause, sound_or_fault};
-use func_table;
-use net_lang;
+use rl_jobs::laws;
 use verilog_text::spelling_laws;
 
-/// For each task, bytes have at most one fault for which they are refused.
-pub fn one_fault()
-    ensures { (task : Task) (bytes : List ℕ) (fault other : Fault) → IsCause task bytes fault → IsCause task bytes other → fault ≡ other }
+/// Reading modules.
+pub fn reading_modules()
+    ensures { IsReading SpellsModule IsNoModule }
 {
-    net_lang::one_network();
-    net_lang::no_cause();
-    net_lang::one_cause();
-    func_table::one_table();
-    func_table::no_cause();
-    func_table::one_cause();
-    sound_or_fault();
-    one_row_fault();
-    one_window_cause();
     spelling_laws::one_module();
     spelling_laws::no_broken_rule();
     spelling_laws::one_broken_rule();
 }
 
-/// Bytes for which a task can be done have no fault for which they are refused.
-pub fn no_fault()
-    ensures { (task : Task) (bytes : List ℕ) (fault : Fault) → CanBeDone task bytes → IsCause task bytes fault → ⊥ }
+/// What `sim` can be done with at these times, and why not.
+pub fn simulating()
+    ensures { (times : List Time) → IsReading (λ bytes m. SpellsModule bytes m × (length times ≡ length m.inputs)) (IsNotSimulated times) }
 {
-    net_lang::one_network();
-    net_lang::no_cause();
-    net_lang::one_cause();
-    func_table::one_table();
-    func_table::no_cause();
-    func_table::one_cause();
-    sound_or_fault();
-    one_row_fault();
-    one_window_cause();
-    spelling_laws::one_module();
-    spelling_laws::no_broken_rule();
-    spelling_laws::one_broken_rule();
+    reading_modules();
+}
+
+/// For each task, texts have at most one fault for which they are refused, and none where the task can be done.
+pub fn one_fault()
+    ensures one { (task : Task) (texts : List (List ℕ)) (f g : Fault) → IsCause task texts f → IsCause task texts g → f ≡ g }
+    ensures none { (task : Task) (texts : List (List ℕ)) (f : Fault) → CanBeDone task texts → IsCause task texts f → ⊥ }
+{
+    laws::compiling();
+    laws::evaluating();
+    laws::synthesising();
+    laws::tabulating();
+    simulating();
 }

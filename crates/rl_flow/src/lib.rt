@@ -3,26 +3,26 @@
 //! `NoMemory` is answered where memory ran out.
 #![tactic(auto)]
 
-mod command;
-mod compile;
-mod fault;
 pub mod laws;
-mod levels;
-mod reading;
+mod loading;
+mod message;
+mod performing;
 mod refusal;
 mod request;
 mod running;
-mod source;
+mod sim;
 mod status;
-mod synthesis;
-mod telling;
-mod values;
-mod window;
+mod times;
+mod verdict;
+mod words;
 
-pub use fault::Fault;
+pub use message::{ErrorLine, line};
+pub use performing::perform;
 pub use refusal::Refusal;
+pub use rl_jobs::Fault;
 pub use running::run;
 pub use status::Status;
+pub use verdict::Verdict;
 
 #[cfg(test)]
 mod module_tests;

@@ -65,7 +65,8 @@ fn row(alloc: Global, low: usize, high: usize) -> Result<Vec<u8>, Fail> {
 #[test]
 fn simulates_many_cycles(rt: HostRuntime) -> Result<(), Fail> {
     let alloc = rt.alloc();
-    let never = output_of(&rt, alloc, DELAY_MODULE, &["sim", "f", "100", "never"])?;
+    let words = ["sim", "f", "100", "never", "never"];
+    let never = output_of(&rt, alloc, RACE_MODULE, &words)?;
     assert_eq!(rt; never, row(alloc, 100, 0)?);
     let late = output_of(&rt, alloc, DELAY_MODULE, &["sim", "f", "100000", "99990"])?;
     assert_eq!(rt; late, row(alloc, 99991, 9)?);
@@ -160,6 +161,23 @@ fn wires_are_assigned_before_they_are_used(rt: HostRuntime) -> Result<(), Fail> 
         b"assign/* first */w0=in_a;assign // then\n\tout_y\r\n= w0 ;\nendmodule",
     )?;
     expect_values(&rt, alloc, &spaced, &words, b"y 011\n")
+}
+
+#[test]
+fn a_delay_is_compiled_and_simulated(rt: HostRuntime) -> Result<(), Fail> {
+    let alloc = rt.alloc();
+    for (network, want) in [
+        (
+            b"racenet 1\ninput a\noutput y = inc(a, 0)\n",
+            b"y 111\n".as_slice(),
+        ),
+        (b"racenet 1\ninput a\noutput y = inc(a, 1)\n", b"y 011\n"),
+    ] {
+        let module = output_of(&rt, alloc, network, &["compile", "f"])?;
+        let levels = output_of(&rt, alloc, &module, &["sim", "f", "3", "0"])?;
+        assert_eq!(rt; levels.as_slice(), want);
+    }
+    Ok(())
 }
 
 #[test]

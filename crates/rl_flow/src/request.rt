@@ -1,14 +1,23 @@
-/// What words ask for: what is to be done with a file.
-#[derive(Clone, Copy)]
+use crate::times::Times;
+
+/// What is to be done with the files of a command.
+#[derive(Drop)]
 pub enum Request<'a> {
     /// Compile its source to a module.
     Compile,
-    /// Evaluate its source at the times that these words write.
-    Eval(&'a [String]),
+    /// Evaluate its source at these times.
+    Eval(Times),
     /// Write the network of its table.
     Synth,
     /// Write the table of its network's output of this name, on times up to this number.
     Tabulate(&'a str, u32),
-    /// Simulate its module for so many cycles, with inputs that rise at the times that these words write.
-    Sim(u32, &'a [String]),
+    /// Simulate its module for so many cycles, with inputs that rise at these times.
+    Sim(u32, Times),
+}
+
+/// A parsed command line: the words that name its files, and what is to be done with them.
+#[derive(Drop)]
+pub struct Command<'a> {
+    pub files: &'a [String],
+    pub request: Request<'a>,
 }

@@ -123,6 +123,27 @@ fn as_many_register_bits_as_there_may_be(rt: HostRuntime) -> Result<(), Fail> {
     Ok(())
 }
 
+// How many lines of a module begin so.
+fn line_count(module: &[u8], beginning: &str) -> Result<usize, Fail> {
+    let text = str::from_utf8(module).ok().ok_or("no text")?;
+    Ok(
+        text.lines()
+            .filter(|line| line.starts_with(beginning))
+            .count(),
+    )
+}
+
+#[test]
+fn each_distinct_let_has_one_wire_and_one_register(rt: HostRuntime) -> Result<(), Fail> {
+    let alloc = rt.alloc();
+    for count in [12, 64] {
+        let module = output_of(&rt, alloc, &doubling(alloc, count)?, &["compile", "f"])?;
+        assert_eq!(rt; line_count(&module, "  wire ")?, count as usize);
+        assert_eq!(rt; line_count(&module, "  reg ")?, count as usize);
+    }
+    Ok(())
+}
+
 #[test]
 fn doubling_lets_are_compiled(rt: HostRuntime) -> Result<(), Fail> {
     let alloc = rt.alloc();

@@ -6,9 +6,9 @@ ghost use Rattle.rl_flow.specs.Status.{code_of};
 pub enum Status {
     /// Done.
     Done,
-    /// No: no run of this version gives it.
+    /// The answer is no. No command of this version gives it.
     No,
-    /// The words are none of the program's.
+    /// The words are no command.
     Words,
     /// The input is refused.
     Refused,
@@ -18,7 +18,7 @@ pub enum Status {
     WriteFault,
     /// Memory ran out.
     NoMemory,
-    /// Undecided: no run of this version gives it.
+    /// The question stays open. No command of this version gives it.
     Undecided,
 }
 

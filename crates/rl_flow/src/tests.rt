@@ -1,7 +1,11 @@
+use crate::message::line;
+use crate::refusal::Refusal;
 use crate::running::run;
 use crate::status::Status;
 use itoa::Buffer;
+use net_lang;
 use rl_io::{FileShelf, MemShelf, MemSink, StdSink, are_distinct};
+use rl_jobs::Fault;
 use std::alloc::{AllocError, Global};
 use std::fs;
 use std::process::Abort;
@@ -419,21 +423,23 @@ fn modules_behave_as_their_networks_are_valued(rt: HostRuntime) -> Result<(), Fa
     Ok(())
 }
 
-// Lets of which each takes the one before twice.
+// So many lets, at least one, of which each takes the one before twice, and the first one the input.
 pub fn doubling(alloc: Global, count: u64) -> Result<Vec<u8>, Fail> {
     let mut number = Buffer::new();
-    let mut text = b"racenet 1\ninput a\nlet p0 = a\n".to_vec(alloc)?;
-    for k in 1..=count {
+    let mut text = b"racenet 1\ninput a\nlet p0 = min(inc(a, 1), a)\n".to_vec(alloc)?;
+    let mut last = 0;
+    for k in 1..count {
         text.extend_from_slice(b"let p")?;
         text.extend_from_slice(number.format(k).as_bytes())?;
         text.extend_from_slice(b" = min(inc(p")?;
-        text.extend_from_slice(number.format(k - 1).as_bytes())?;
+        text.extend_from_slice(number.format(last).as_bytes())?;
         text.extend_from_slice(b", 1), p")?;
-        text.extend_from_slice(number.format(k - 1).as_bytes())?;
+        text.extend_from_slice(number.format(last).as_bytes())?;
         text.extend_from_slice(b")\n")?;
+        last = k;
     }
     text.extend_from_slice(b"output y = p")?;
-    text.extend_from_slice(number.format(count).as_bytes())?;
+    text.extend_from_slice(number.format(last).as_bytes())?;
     text.extend_from_slice(b"\n")?;
     Ok(text)
 }
@@ -533,6 +539,25 @@ fn refuses_files(rt: HostRuntime) -> Result<(), Fail> {
 }
 
 #[test]
+fn refuses_broken_networks(rt: HostRuntime) -> Result<(), Fail> {
+    let alloc = rt.alloc();
+    let cut = b"racenet 1\ninput a b\noutput y = min(a,";
+    expect_refused(&rt, alloc, cut, b"racelog: E10 file 1 line 3\n")?;
+    let itself = b"racenet 1\ninput a b\nlet p = min(p, a)\noutput y = p\n";
+    expect_refused(&rt, alloc, itself, b"racelog: E14 file 1 line 3\n")?;
+    let low = b"racenet 1\ninput _a\noutput y = _a\n";
+    expect_refused(&rt, alloc, low, b"racelog: E11 file 1 line 2\n")?;
+    let mut number = Buffer::new();
+    let mut many = b"racenet 1\ninput".to_vec(alloc)?;
+    for k in 0..65u32 {
+        many.extend_from_slice(b" a")?;
+        many.extend_from_slice(number.format(k).as_bytes())?;
+    }
+    many.extend_from_slice(b"\noutput y = a0\n")?;
+    expect_refused(&rt, alloc, &many, b"racelog: E15 file 1 line 2\n")
+}
+
+#[test]
 fn refuses_too_many_register_bits(rt: HostRuntime) -> Result<(), Fail> {
     let alloc = rt.alloc();
     let many = b"racenet 1\ninput a\noutput y = inc(a, 65537)\n";
@@ -542,7 +567,7 @@ fn refuses_too_many_register_bits(rt: HostRuntime) -> Result<(), Fail> {
 }
 
 #[test]
-fn tells_faults_of_reading_and_writing(rt: HostRuntime) -> Result<(), Fail> {
+fn reports_faults_of_reading_and_writing(rt: HostRuntime) -> Result<(), Fail> {
     let alloc = rt.alloc();
     let read_fault = (
         Status::ReadFault,
@@ -582,7 +607,31 @@ fn tells_faults_of_reading_and_writing(rt: HostRuntime) -> Result<(), Fail> {
         &["compile", "f"],
         &third_put,
         write_fault,
-    )
+    )?;
+    let first_put = Outside {
+        chunk: 16,
+        fetch_fails: &[],
+        put_chunk: 64,
+        put_fails: &[1],
+    };
+    let nothing = (
+        Status::WriteFault,
+        b"".as_slice(),
+        b"racelog: write fault\n".as_slice(),
+    );
+    expect(&rt, alloc, EARLIEST, &["compile", "f"], &first_put, nothing)
+}
+
+#[test]
+fn refusals_are_displayed_without_a_newline(rt: HostRuntime) -> Result<(), Fail> {
+    let refusal = Refusal::Refused(Fault::Network(3, net_lang::Rule::Span, 17));
+    let text = format!(in rt.alloc(); "{refusal}")?;
+    assert_eq!(rt; text.as_str(), "racelog: E12 file 3 line 17");
+    assert_eq!(rt;
+        line(refusal).as_bytes(),
+        b"racelog: E12 file 3 line 17\n".as_slice()
+    );
+    Ok(())
 }
 
 // A standard error that fails at once changes no status.

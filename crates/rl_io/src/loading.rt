@@ -8,8 +8,8 @@ use std::alloc::{AllocError, Global};
 /// The largest limit on the length of a file, in bytes.
 pub const LARGEST_LIMIT: u64 = 67_108_864;
 
-// What one fetch is asked for at most, in bytes: much, since a fetch of a real file opens it.
-const PIECE: usize = 65_536;
+// The most bytes that one fetch is asked for.
+const PIECE: usize = 1_048_576;
 
 /// Why a file was not read.
 #[derive(Clone, Copy, Debug, PartialEq, Eq)]
@@ -59,7 +59,7 @@ pub fn load<S: Shelf>(
     ensures given { S.given shelf.old ≤ S.given shelf.new }
     ensures asked { S.given shelf.new ≤ S.given shelf.old + limit + 1 }
 
-    // A told file that is longer than the limit never gives Ok, and an answer but want of memory has its cause.
+    // A known file that is longer than the limit never gives Ok, and every error but out of memory has its cause.
     ensures whole { IfOk result (λ text. (length text.items ≤ limit)
         × OnFile (S.contents shelf.old) name.now (λ file. file ≡ text.items)) }
     ensures fault { IsErrOf result LoadError.Fault

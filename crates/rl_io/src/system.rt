@@ -5,16 +5,57 @@ ghost use Rattle.rl_io.specs.Streams.{after_fetch, after_put};
 
 use crate::shelf::{Fetched, Shelf};
 use crate::sink::{Put, Sink};
+use arrayvec::ArrayString;
 use std::fs::File;
 use std::io;
-use std::io::{Stderr, Stdout};
+use std::io::{Error, ErrorKind, Read, Seek, SeekFrom, Stderr, Stdout};
 use std::marker::Model;
-use std::os::unix::fs::FileExt;
 
-/// The files of the system. What they hold is not told, and the count of faults is one for all names.
+/// A file that is being read, and the place up to which it was read.
+#[derive(Drop)]
+struct Reading {
+    name: ArrayString<4096>,
+    file: File,
+    place: u64,
+}
+
+impl Reading {
+    /// Opens the file of this name at this place. A name of more than 4,096 bytes is an error, as it is for the system.
+    fn open(rt: &HostRuntime, name: &str, place: u64) -> io::Result<Reading> {
+        let Ok(kept) = ArrayString::from(name) else {
+            return Err(Error::from(ErrorKind::InvalidInput));
+        };
+        let mut file = File::open(rt, name)?;
+        if place > 0 {
+            file.seek(SeekFrom::Start(place))?;
+        }
+        Ok(Reading {
+            name: kept,
+            file,
+            place,
+        })
+    }
+
+    /// The file that is being read, where it has this name and was read up to this place, which isn't its beginning; else
+    /// the file of this name, opened anew.
+    fn at(rt: &HostRuntime, open: Option<Reading>, name: &str, place: u64) -> io::Result<Reading> {
+        if let Some(reading) = open {
+            if place > 0 && reading.place == place && reading.name.as_str() == name {
+                return Ok(reading);
+            }
+        }
+        Reading::open(rt, name, place)
+    }
+}
+
+/// The files of the system. What they hold is not known, and the count of faults is one for all names.
+///
+/// A file is opened by the fetch at its beginning, and stays open for the fetches that read on where the last one ended. So a
+/// pipe can be read, and a file that is replaced meanwhile isn't mixed with the new one.
 #[derive(Drop)]
 pub struct FileShelf {
     rt: HostRuntime,
+    reading: Option<Reading>,
     faults: u64,
     given: u64,
 }
@@ -37,18 +78,27 @@ impl FileShelf {
     {
         FileShelf {
             rt: *rt,
+            reading: None,
             faults: 0,
             given: 0,
         }
     }
 }
 
-// Reads from a place on. The file is opened for this alone; no heap is taken.
-fn read_file(rt: &HostRuntime, name: &str, at: u64, buf: &mut [u8]) -> io::Result<usize>
-    ensures { IfOk result (λ n. n ≤ length buf.new) }
-{
-    let file = File::open(rt, name)?;
-    file.read_at(buf, at)
+impl FileShelf {
+    /// Reads bytes from a place on. After the file's end, or an error, no file is open. No heap is taken.
+    fn read(&mut self, name: &str, place: u64, buf: &mut [u8]) -> io::Result<usize>
+        ensures bound { IfOk result (λ n. n ≤ length buf.new) }
+        ensures counts { self.new ≡ self.old }
+    {
+        let mut reading = Reading::at(&self.rt, self.reading.take(), name, place)?;
+        let n = reading.file.read(buf)?;
+        if n > 0 {
+            reading.place = place.saturating_add(n as u64);
+            self.reading = Some(reading);
+        }
+        Ok(n)
+    }
 }
 
 impl Shelf for FileShelf {
@@ -68,7 +118,7 @@ impl Shelf for FileShelf {
         ensures cause { FetchFails result self.old.faults self.new.faults }
         ensures after { self.new ≡ after_fetch self.old result }
     {
-        match read_file(&self.rt, name, at, buf) {
+        match self.read(name, at, buf) {
             Ok(0) => Fetched::End,
             Ok(n) => {
                 self.given = self.given.saturating_add(n as u64);
@@ -88,7 +138,7 @@ enum Stream {
     Err(Stderr),
 }
 
-/// Standard output or standard error. What it took is not told.
+/// Standard output or standard error. What it took is not known.
 #[derive(Drop)]
 pub struct StdSink {
     stream: Stream,

@@ -9,9 +9,11 @@ use crate::shelf::{Fetched, Shelf};
 use crate::sink::{Put, Sink};
 use crate::system::{FileShelf, StdSink};
 use std::alloc::{AllocError, Global};
-use std::fs;
+use std::io::Write;
+use std::os::fd::AsRawFd;
 use std::process::Abort;
 use std::test::Fail;
+use std::{fs, io};
 
 // From the contracts alone: where no call is to fail, a file that is held and is short enough is loaded.
 fn loaded(
@@ -137,11 +139,11 @@ fn loads_up_to_the_limit(rt: HostRuntime) -> Result<(), Fail> {
 
 #[test]
 fn loads_by_large_pieces(rt: HostRuntime) -> Result<(), Fail> {
-    let bytes = vec![in rt.alloc(); 7u8; 150_000]?;
+    let bytes = vec![in rt.alloc(); 7u8; 2_200_000]?;
     // Three fetches for the bytes, and one that finds the end.
-    for (fails, want) in [(4, Err(LoadError::Fault)), (5, Ok(150_000))] {
-        let mut shelf = shelf_of(&rt, rt.alloc(), &bytes, 1_000_000, &[fails])?;
-        match load(rt.alloc(), &mut shelf, "a", 1_048_576) {
+    for (fails, want) in [(4, Err(LoadError::Fault)), (5, Ok(2_200_000))] {
+        let mut shelf = shelf_of(&rt, rt.alloc(), &bytes, 2_000_000, &[fails])?;
+        match load(rt.alloc(), &mut shelf, "a", 3_000_000) {
             Ok(text) => assert_eq!(rt; Ok(text.len()), want),
             Err(error) => assert_eq!(rt; Err(error), want),
         }
@@ -269,6 +271,41 @@ fn reads_a_real_file(rt: HostRuntime) -> Result<(), Fail> {
         Ok(_) => assert!(rt; false, "a file that is nowhere"),
         Err(error) => assert_eq!(rt; error, LoadError::Fault),
     }
+    Ok(())
+}
+
+#[test]
+fn reads_on_in_the_file_that_it_opened(rt: HostRuntime) -> Result<(), Fail> {
+    fs::write(&rt, "changed", "old text\n")?;
+    let mut shelf = FileShelf::new(&rt);
+    let mut buf = [0u8; 4];
+    assert_eq!(rt; shelf.fetch("changed", 0, &mut buf), Fetched::Got(4));
+    fs::remove_file(&rt, "changed")?;
+    fs::write(&rt, "changed", "NEW TEXT\n")?;
+    assert_eq!(rt; shelf.fetch("changed", 4, &mut buf), Fetched::Got(4));
+    assert_eq!(rt; &buf, b"text");
+    // Another place is one of the new file, and so is the beginning.
+    assert_eq!(rt; shelf.fetch("changed", 5, &mut buf), Fetched::Got(4));
+    assert_eq!(rt; &buf, b"EXT\n");
+    assert_eq!(rt; shelf.fetch("changed", 0, &mut buf), Fetched::Got(4));
+    assert_eq!(rt; &buf, b"NEW ");
+    fs::remove_file(&rt, "changed")?;
+    Ok(())
+}
+
+#[test]
+fn reads_a_pipe(rt: HostRuntime) -> Result<(), Fail> {
+    let alloc = rt.alloc();
+    let (reader, mut writer) = io::pipe(&rt)?;
+    writer.write_all(b"some text\n")?;
+    drop(writer);
+    let fd = reader.as_raw_fd();
+    let name = format!(in alloc; "/proc/self/fd/{fd}")?;
+    let mut shelf = FileShelf::new(&rt);
+    let text = load(alloc, &mut shelf, name.as_str(), 100)
+        .ok()
+        .ok_or("no text")?;
+    assert_eq!(rt; text.as_slice(), b"some text\n".as_slice());
     Ok(())
 }
 

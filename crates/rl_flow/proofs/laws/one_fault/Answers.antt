@@ -1,9 +1,22 @@
-use Rattle.rl_flow.proofs.Judging.{readings, one_fault}
+use Rattle.rl_flow.proofs.Judging.{one_fault, no_fault}
 use Rattle.rl_flow.proofs.laws.one_fault.Goals as goal
 
-pub returns : goal.returns
-returns c =
-    one_fault
-    (readings c.one_network.ensures c.no_cause.ensures c.one_cause.ensures c.one_table.ensures c.no_cause-2.ensures c.one_cause-2.ensures
-    c.one_row_fault.ensures c.sound_or_fault.ensures.never_both c.one_module.ensures c.no_broken_rule.ensures c.one_broken_rule.ensures)
-    c.one_window_cause.ensures.one
+pub returns-clause-one : goal.returns-clause-one
+returns-clause-one c =
+    one_fault (record {
+      compiling = c.compiling.ensures;
+      evaluating = c.evaluating.ensures;
+      synthesising = c.synthesising.ensures;
+      tabulating = c.tabulating.ensures;
+      simulating = c.simulating.ensures;
+    })
+
+pub returns-clause-none : goal.returns-clause-none
+returns-clause-none c =
+    no_fault (record {
+      compiling = c.compiling.ensures;
+      evaluating = c.evaluating.ensures;
+      synthesising = c.synthesising.ensures;
+      tabulating = c.tabulating.ensures;
+      simulating = c.simulating.ensures;
+    })

@@ -5,7 +5,7 @@ use Rattle.rl_io.proofs.loading.load.Given as goal
 abbrev pub invariant-loop-text : goal.invariant-loop-text
 invariant-loop-text g l = record {
   most : l.most ≡ l.limit;
-  size : vec_len l.piece ≡ 65536;
+  size : vec_len l.piece ≡ 1048576;
   short : length l.text.items ≤ l.limit + 1;
   planned : g.S.Shelf.plan l.shelf ≡ g.S.Shelf.plan l.initial.shelf;
   kept : g.S.Shelf.given l.initial.shelf ≤ g.S.Shelf.given l.shelf;

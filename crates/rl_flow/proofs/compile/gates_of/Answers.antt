@@ -1,4 +1,0 @@
-use Rattle.rl_flow.proofs.compile.gates_of.Goals as goal
-
-pub returns-in-OfNetwork-clause-bits : goal.returns-in-OfNetwork-clause-bits
-returns-in-OfNetwork-clause-bits c = rw (c.in-OfNetwork.is) (c.lower_network.ensures.bits)

@@ -1,0 +1,35 @@
+ghost use Rattle.std.specs.Prelude.{◌≡◌};
+ghost use Rattle.rl_flow.specs.Status.{status_with};
+
+use crate::status::Status;
+
+/// How a command is answered whose files are not refused.
+#[derive(Clone, Copy, Debug, PartialEq, Eq)]
+pub enum Verdict {
+    /// It is done.
+    Done,
+    /// The answer is no. No command of this version gives it.
+    No,
+    /// The question stays open. No command of this version gives it.
+    Undecided,
+}
+
+/// A verdict, and the text that is written with it.
+#[derive(Drop)]
+pub struct Answer {
+    pub verdict: Verdict,
+    pub text: Vec<u8>,
+}
+
+impl Verdict {
+    /// The status with which the run ends.
+    pub fn status(&self) -> Status
+        ensures { result ≡ status_with self.now }
+    {
+        match self {
+            Verdict::Done => Status::Done,
+            Verdict::No => Status::No,
+            Verdict::Undecided => Status::Undecided,
+        }
+    }
+}

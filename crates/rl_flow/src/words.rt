@@ -1,0 +1,183 @@
+ghost use Rattle.std.specs.Prelude.{◌≡◌, ◌≤◌, length, IfSome};
+ghost use Rattle.std.specs.List.{list_all};
+ghost use Rattle.std.specs.Option.{option_map};
+ghost use Rattle.net_model.specs.Early.{IsAtMost};
+ghost use Rattle.rl_flow.specs.Words.{is_file_word, number_word, time_word, times_of, is_letter, is_name_byte, is_name_word, texts_of};
+ghost use Rattle.rl_flow.specs.Task.{alone, eval_task, tabulate_task, sim_task, task_of, command_of};
+ghost use Rattle.rl_flow.specs.Asked.{limits};
+ghost use Rattle.rl_flow.specs.Request.{task, IsSmall};
+
+use crate::request::{Command, Request};
+use crate::times::Times;
+use rl_time::{Time, read_time};
+
+fn is_file_word(word: &str) -> bool
+    ensures { result ≡ is_file_word word.now }
+{
+    let bytes = word.as_bytes();
+    1 <= bytes.len() && bytes.len() <= 4096 && bytes[0] != b'-'
+}
+
+/// The number that a word writes without a leading zero, where it is at most this.
+fn number_word(word: &str, most: u64) -> Option<u64>
+    ensures number { result ≡ number_word most word.now }
+    ensures small { IfSome result (λ n. n ≤ most) }
+{
+    match read_time(word.as_bytes())? {
+        Time::At(number) => { if number <= most { Some(number) } else { None } }
+        Time::Never => None,
+    }
+}
+
+/// The time that a word writes: `never`, or at most 1,000,000,000,000 cycles.
+fn time_word(word: &str) -> Option<Time>
+    ensures time { result ≡ time_word word.now }
+    ensures early { IfSome result (IsAtMost 1000000000000) }
+{
+    match read_time(word.as_bytes())? {
+        Time::At(number) => {
+            if number <= 1_000_000_000_000 {
+                Some(Time::At(number))
+            } else {
+                None
+            }
+        }
+        Time::Never => Some(Time::Never),
+    }
+}
+
+/// The times that 1 to 64 words write, in order.
+fn read_times(words: &[String]) -> Option<Times>
+    ensures { result ≡ times_of (texts_of words.now) }
+{
+    if words.is_empty() || words.len() > 64 {
+        return None;
+    }
+    let mut times = Times::new();
+    for word in words {
+        times.push(time_word(word.as_str())?);
+    }
+    Some(times)
+}
+
+fn is_letter(byte: u8) -> bool
+    ensures { result ≡ is_letter byte }
+{
+    matches!(byte, b'a'..=b'z' | b'A'..=b'Z')
+}
+
+fn is_name_byte(byte: u8) -> bool
+    ensures { result ≡ is_name_byte byte }
+{
+    is_letter(byte) || matches!(byte, b'0'..=b'9' | b'_')
+}
+
+fn are_name_bytes(bytes: &[u8]) -> bool
+    ensures { result ≡ list_all is_name_byte bytes.now }
+{
+    bytes.iter().all(|byte| is_name_byte(*byte))
+}
+
+/// Whether a word may name an output.
+fn is_name_word(word: &str) -> bool
+    ensures { result ≡ is_name_word word.now }
+{
+    let bytes = word.as_bytes();
+    1 <= bytes.len() && bytes.len() <= 32 && is_letter(bytes[0]) && are_name_bytes(bytes)
+}
+
+/// The request, where no words are left.
+fn alone<'a>(request: Request<'a>, words: &[String]) -> Option<Request<'a>>
+    requires small { IsSmall request }
+    ensures task { option_map task result ≡ alone (task request.entry) (texts_of words.now) }
+    ensures small { IfSome result IsSmall }
+{
+    if words.is_empty() {
+        Some(request)
+    } else {
+        None
+    }
+}
+
+/// The request of the words `TIME..`.
+fn eval_request(words: &[String]) -> Option<Request<'_>>
+    ensures task { option_map task result ≡ eval_task (texts_of words.now) }
+    ensures small { IfSome result IsSmall }
+{
+    Some(Request::Eval(read_times(words)?))
+}
+
+/// The request of the words `NAME WINDOW`.
+fn tabulate_request(words: &[String]) -> Option<Request<'_>>
+    ensures task { option_map task result ≡ tabulate_task (texts_of words.now) }
+    ensures small { IfSome result IsSmall }
+{
+    let [name, window] = words else {
+        return None;
+    };
+    if !is_name_word(name.as_str()) {
+        return None;
+    }
+    let window = number_word(window.as_str(), 1_000_000)?;
+    Some(Request::Tabulate(name.as_str(), window as u32))
+}
+
+/// The request of the words `CYCLES TIME..`.
+fn sim_request(words: &[String]) -> Option<Request<'_>>
+    ensures task { option_map task result ≡ sim_task (texts_of words.now) }
+    ensures small { IfSome result IsSmall }
+{
+    let [cycles, words @ ..] = words else {
+        return None;
+    };
+    let cycles = number_word(cycles.as_str(), 100_000)?;
+    if cycles == 0 {
+        return None;
+    }
+    Some(Request::Sim(cycles as u32, read_times(words)?))
+}
+
+/// The request of a command's first word and of the words after its file.
+fn request_of<'a>(command: &str, words: &'a [String]) -> Option<Request<'a>>
+    ensures task { option_map task result ≡ task_of command.now (texts_of words.now) }
+    ensures small { IfSome result IsSmall }
+{
+    if command == "compile" {
+        return alone(Request::Compile, words);
+    }
+    if command == "eval" {
+        return eval_request(words);
+    }
+    if command == "synth" {
+        return alone(Request::Synth, words);
+    }
+    if command == "tabulate" {
+        return tabulate_request(words);
+    }
+    if command == "sim" {
+        return sim_request(words);
+    }
+    None
+}
+
+/// Parses the words of a command line. `None` for words that are no command.
+#[tactic(auto, unfolding(crate::specs::Task::command_of))]
+pub fn parse(words: &[String]) -> Option<Command<'_>>
+    ensures command { option_map (λ c. record { files = texts_of c.files.now; task = task c.request }) result
+        ≡ command_of (texts_of words.now) }
+    ensures small { IfSome result (λ c. IsSmall c.request) }
+    ensures each { IfSome result (λ c. length (limits (task c.request)) ≡ length c.files.now) }
+    ensures few { IfSome result (λ c. length c.files.now ≤ 3) }
+{
+    let [command, file, rest @ ..] = words else {
+        return None;
+    };
+    if !is_file_word(file.as_str()) {
+        return None;
+    }
+    let request = request_of(command.as_str(), rest)?;
+    Some(Command {
+        files: &words[1..2],
+        request,
+    })
+}

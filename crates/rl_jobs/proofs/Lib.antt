@@ -1,0 +1,3 @@
+pub mod Right
+pub mod Tabulated
+pub mod Judging

@@ -1,0 +1,5 @@
+use Rattle.rl_jobs.proofs.Judging.{reads_sources}
+use Rattle.rl_jobs.proofs.laws.reading_sources.Goals as goal
+
+pub returns : goal.returns
+returns c = reads_sources c.reading_networks.ensures c.reading_tables.ensures

@@ -1,0 +1,6 @@
+pub mod Sources
+pub mod Values
+pub mod Synthesised
+pub mod Windows
+pub mod Compiled
+pub mod Readings
