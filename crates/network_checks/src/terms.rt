@@ -14,6 +14,7 @@ use term_store::{
 #[test]
 fn a_held_node_has_its_place(rt: HostRuntime) -> Result<(), Fail> {
     let mut store = Store::new(rt.alloc())?;
+    store.reserve(4)?;
     let a = store.intern(Node::Input(0))?;
     let b = store.intern(Node::Input(1))?;
     assert!(rt; a.0 < store.len());
