@@ -1,7 +1,7 @@
 -- What an activation of a marked assign leaves.
 use Rattle.std.proofs.Common.{◌≡◌, ◌≢◌, ℕ, ◌+◌, ◌*◌, ◌<◌, ◌≤◌, Bool, true, false, List, [], length, get_or, set, replicate, refl, ap, ◌∙◌, sym, subst, inl, inr, arith, Some, get_or-set_same, get_or-set_other}
 use Rattle.std.specs.Prelude.{slice_get, ◌⊎◌}
-use Rattle.std.proofs.lemmas.List.{length-set, set_past}
+use Rattle.std.proofs.lemmas.List.{set_past}
 use Rattle.std.proofs.lemmas.Option.{slice_get_within}
 use Rattle.std.proofs.lemmas.Bool.{cases_lt, cases_eq, eq-eqb, or_left, or_right}
 use Rattle.circuit.specs.declared.bit.Target.{Target}
@@ -10,10 +10,10 @@ use Rattle.circuit.specs.Circuit.{Logic, Assignment, Register, Circuit, names_wi
 use Rattle.circuit.specs.Circuit as l
 use Rattle.circuit.specs.Valid.{IsTarget, IsOrdered}
 use Rattle.circuit.specs.Meaning.{State, level, at, put, HasLevels, IsSettled}
-use Rattle.cycle_sim.specs.Marked.{mark_at, IsMarked, IsUnmarked, HasMore, HasAll, HasAllAbove}
+use Rattle.cycle_sim.specs.Marked.{IsUnmarked, HasAll, HasAllAbove}
 use Rattle.cycle_sim.specs.Operands.{Operand, Input, Wire, Bit, value, Names, place, AreReaders}
 use Rattle.cycle_sim.specs.UpToDate.{AllMarked, IsSeen, IsUpToDate}
-use Rattle.cycle_sim.proofs.Seen.{assign_seen, reg_seen, seen_refl}
+use Rattle.cycle_sim.proofs.Seen.{assign_seen, reg_seen}
 
 set_read : (xs : List Bool) (i j : ℕ) (v : Bool) → (get_or (set xs i v) j false ≡ get_or xs j false) ⊎ ((i ≡ j) × (get_or (set xs i v) j false ≡ v))
 set_read xs i j v = elim (cases_eq j i) [

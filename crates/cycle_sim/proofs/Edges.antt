@@ -1,5 +1,5 @@
 -- A clock edge keeps a level for each bit of each register.
-use Rattle.std.proofs.Common.{◌≡◌, ℕ, List, [], ◌∷◌, Bool, false, length, take, map, refl, ap, ◌∙◌, arith}
+use Rattle.std.proofs.Common.{◌≡◌, List, [], ◌∷◌, Bool, false, length, take, map, refl, ap, ◌∙◌, arith}
 use Rattle.std.proofs.lemmas.List.{length-replicate, length-take-le}
 use Rattle.circuit.specs.Circuit.{Register, Circuit}
 use Rattle.circuit.specs.Meaning.{State, level, rows_after, row_at_start}

@@ -1,9 +1,9 @@
 -- Marks of the items on a list, one after another.
-use Rattle.std.proofs.Common.{◌≡◌, ◌≢◌, ℕ, ◌+◌, ◌*◌, ◌<◌, ◌≤◌, List, length, refl, ap, ◌∙◌, sym, subst, inl, inr, arith, Some, Option}
-use Rattle.std.specs.Prelude.{slice_get, ◌⊎◌}
+use Rattle.std.proofs.Common.{◌≡◌, ◌≢◌, ℕ, ◌+◌, ◌*◌, ◌<◌, ◌≤◌, List, length, refl, ap, ◌∙◌, sym, subst, inl, inr, arith, Some}
+use Rattle.std.specs.Prelude.{slice_get}
 use Rattle.std.proofs.lemmas.Option.{slice_get_within}
 use Rattle.std.proofs.lemmas.Bool.{cases_lt}
-use Rattle.cycle_sim.specs.Marked.{mark_at, IsMarked, IsUnmarked, HasMore, HasFirst, HasFirstAbove, HasAll, HasAllAbove, NoMoreUpTo, NoneFrom}
+use Rattle.cycle_sim.specs.Marked.{mark_at, IsMarked, IsUnmarked, HasMore, HasFirst, HasFirstAbove, HasAll, HasAllAbove, NoneFrom}
 
 pub more_refl : (words : List ℕ) → HasMore words words
 more_refl words = record { room = refl; kept = λ k h. h }

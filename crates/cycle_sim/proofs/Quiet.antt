@@ -1,9 +1,8 @@
 -- A cycle after which nothing changes.
-use Rattle.std.proofs.Common.{◌≡◌, ℕ, zero, suc, ◌+◌, ◌<◌, ◌≤◌, Bool, true, false, List, [], ◌∷◌, length, get_or, take, replicate, refl, ap, ◌∙◌, sym, subst, arith, Some, None, if◌then◌else◌, map, IsSome}
-use Rattle.std.specs.Prelude.{slice_get}
+use Rattle.std.proofs.Common.{◌≡◌, ℕ, zero, suc, ◌+◌, ◌<◌, Bool, true, List, [], ◌∷◌, length, get_or, take, replicate, refl, ap, ◌∙◌, sym, subst, arith, Some, None, if◌then◌else◌, map, IsSome}
 use Rattle.std.proofs.lemmas.Option.{slice_get_within, slice_get-get_or}
-use Rattle.circuit.specs.Circuit.{Register, Circuit}
-use Rattle.circuit.specs.Meaning.{State, level, IsSettled, IsNext, Follows, row_after, rows_after}
+use Rattle.circuit.specs.Circuit.{Circuit}
+use Rattle.circuit.specs.Meaning.{State, level, IsSettled, IsNext, Follows}
 use Rattle.cycle_sim.specs.Levels.{HasAllLevels}
 use Rattle.cycle_sim.specs.Standing.{Standing, IsStep}
 use Rattle.cycle_sim.specs.Marked.{IsUnmarked}

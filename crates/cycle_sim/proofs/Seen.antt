@@ -1,16 +1,12 @@
 -- Levels that depend on the named operands only, and what stays up to date.
-use Rattle.std.proofs.Common.{◌≡◌, ◌≢◌, ℕ, ◌+◌, ◌<◌, ◌≤◌, Bool, true, false, List, [], length, get_or, set, replicate, refl, ap, ◌∙◌, sym, subst, inl, inr, arith, Some, get_or-set_same, get_or-set_other}
+use Rattle.std.proofs.Common.{◌≡◌, ℕ, ◌+◌, List, length, refl, ap, ◌∙◌, inl, inr, arith, Some}
 use Rattle.std.specs.Prelude.{not, ◌&&◌, ◌||◌, slice_get, ◌⊎◌}
-use Rattle.std.proofs.lemmas.List.{length-set, set_past}
-use Rattle.std.proofs.lemmas.Bool.{cases_lt, cases_eq}
-use Rattle.circuit.specs.declared.bit.Target.{Target}
-use Rattle.circuit.specs.declared.bit.Target.TheVariants as target
 use Rattle.circuit.specs.Circuit as l
 use Rattle.circuit.specs.Circuit.{Logic, Assignment, Register, Circuit}
-use Rattle.circuit.specs.Meaning.{State, level, at}
+use Rattle.circuit.specs.Meaning.{State, level}
 use Rattle.cycle_sim.specs.Marked.{mark_at, IsMarked, IsUnmarked, HasMore}
 use Rattle.cycle_sim.specs.Operands.{Operand, Input, Wire, Bit, value, Names}
-use Rattle.cycle_sim.specs.UpToDate.{AllMarked, IsSeen, IsUpToDate}
+use Rattle.cycle_sim.specs.UpToDate.{AllMarked, IsSeen}
 
 -- a level depends on the named operands only
 pub level_by : (s s' : State) (e : Logic) → ((x : Operand) → Names e x → value s x ≡ value s' x) → level s e ≡ level s' e

@@ -1,7 +1,7 @@
 -- Shifts of registers, and which items see them.
-use Rattle.std.proofs.Common.{◌≡◌, ◌≢◌, ℕ, zero, suc, ◌+◌, ◌*◌, ◌<◌, ◌≤◌, Bool, true, false, List, [], ◌∷◌, length, get_or, set, take, replicate, map, refl, ap, ◌∙◌, sym, subst, inl, inr, arith, Some, add-one, get_or-set_same, get_or-set_other}
+use Rattle.std.proofs.Common.{◌≡◌, ◌≢◌, ℕ, zero, suc, ◌+◌, ◌*◌, ◌<◌, ◌≤◌, Bool, false, List, [], ◌∷◌, length, get_or, set, take, replicate, refl, ap, ◌∙◌, sym, subst, inl, inr, arith, Some, get_or-set_same, get_or-set_other}
 use Rattle.std.specs.Prelude.{slice_get, ◌⊎◌}
-use Rattle.std.proofs.lemmas.List.{get_or_past, length-replicate, length-take-le, length-set}
+use Rattle.std.proofs.lemmas.List.{get_or_past, length-take-le, length-set}
 use Rattle.std.proofs.lemmas.Option.{slice_get_within, slice_get-get_or, get_or_from_slice_get}
 use Rattle.std.proofs.lemmas.Bool.{cases_lt, cases_eq}
 use Rattle.circuit.specs.declared.bit.Target.{Target}

@@ -1,17 +1,15 @@
 -- Words moved up by one bit, and the rows that they are.
-use Rattle.std.proofs.Common.{◌≡◌, ◌≢◌, ℕ, zero, suc, ◌+◌, ◌-◌, ◌*◌, ◌/◌, ◌%◌, ◌^◌, ◌<◌, ◌≤◌, max, Bool, true, false, nat_eq, List, [], ◌∷◌, length, get_or, set, take, map, replicate, refl, ap, ◌∙◌, sym, subst, inl, inr, arith, add-one, add-zero, get_or-set_same, get_or-set_other}
-use Rattle.std.specs.Prelude.{◌⊎◌, ◌==◌}
-use Rattle.std.specs.List.{range_with_len}
-use Rattle.std.specs.Int.{bit_at, w64}
+use Rattle.std.proofs.Common.{◌≡◌, ◌≢◌, ℕ, zero, suc, ◌+◌, ◌-◌, ◌*◌, ◌/◌, ◌%◌, ◌^◌, ◌<◌, ◌≤◌, Bool, false, List, ◌∷◌, length, get_or, set, replicate, refl, ap, ◌∙◌, sym, subst, inl, inr, arith, add-one, get_or-set_same, get_or-set_other}
+use Rattle.std.specs.Prelude.{◌==◌}
+use Rattle.std.specs.Int.{bit_at}
 use Rattle.std.specs.Int.RustNames.{bit_or, bit_xor}
 use Rattle.std.proofs.lemmas.List.{length-set, same_lists, get_or_default, length-replicate, get_or-replicate, get_or_past}
 use Rattle.std.proofs.lemmas.List.FromFn.{get_or-map-range_with_len, length-map-range_with_len}
-use Rattle.std.proofs.lemmas.Bool.{cases_eq, cases_lt, cases_order}
-use Rattle.std.proofs.lemmas.Nat.Bits.{bit_at_lowest, bit_at-suc, bit_at-lt, bit_at_or, bit_at_xor, bit_at_cat_low, bit_at_above, bit_at-zero}
+use Rattle.std.proofs.lemmas.Bool.{cases_eq, cases_lt}
+use Rattle.std.proofs.lemmas.Nat.Bits.{bit_at_lowest, bit_at-suc, bit_at-lt, bit_at_or, bit_at_xor, bit_at_cat_low, bit_at_above}
 use Rattle.cycle_sim.specs.Levels.{shifted}
-use Rattle.cycle_sim.specs.Marked.{mark_at, NoneFrom}
+use Rattle.cycle_sim.specs.Marked.{mark_at}
 use Rattle.cycle_sim.specs.Rows.{row_of, IsPulled, HasTop, AllPulled, ArePulled, moved_at}
-use Rattle.cycle_sim.proofs.Bits.{mark_either}
 use Rattle.cycle_sim.proofs.Shifting.{shifted_reads, shifted_long}
 
 -- ---- one word

@@ -1,5 +1,5 @@
 -- What an expression's level depends on: the levels of the inputs, wires and register bits that it names.
-use Rattle.std.specs.Prelude.{◌≡◌, ℕ, ◌+◌, ◌<◌, Bool, false, List, [], length, slice_index_or, slice_get, Some, ◌⊎◌}
+use Rattle.std.specs.Prelude.{◌≡◌, ℕ, ◌+◌, Bool, false, List, [], length, slice_index_or, slice_get, Some, ◌⊎◌}
 use Rattle.circuit.specs.Circuit as l
 use Rattle.circuit.specs.Circuit.{Logic, Assignment, Register, Circuit}
 use Rattle.circuit.specs.Meaning.{State}

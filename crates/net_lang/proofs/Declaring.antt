@@ -1,11 +1,11 @@
 -- Inputs declared one after the other, as a loop takes them.
-use Rattle.std.proofs.Common.{◌≡◌, ◌≢◌, ℕ, ◌+◌, ◌≤◌, ◌<◌, Bool, true, false, cond, not, ◌||◌, ltb, List, [], ◌∷◌, ◌++◌, length, map, drop, get_or, Option, Some, None, refl, sym, ap, subst, ◌∙◌, arith}
+use Rattle.std.proofs.Common.{◌≡◌, ◌≢◌, ℕ, ◌+◌, ◌≤◌, ◌<◌, Bool, true, false, cond, not, ◌||◌, ltb, List, [], ◌∷◌, ◌++◌, length, map, drop, get_or, Option, Some, None, refl, sym, ap, subst, ◌∙◌}
 use denote.Bor.{Bor}
 use Rattle.net_lang.specs.declared.reader.scope.Known.{Known}
 use Rattle.std.specs.Prelude.{is_some}
 use Rattle.std.specs.List.{list_any, list_all}
 use Rattle.std.specs.Str.{bytes_eq}
-use Rattle.std.proofs.lemmas.List.{append-nil, append_assoc, length-append, drop_more, drop_all}
+use Rattle.std.proofs.lemmas.List.{append-nil, append_assoc, drop_more, drop_all}
 use Rattle.std.proofs.lemmas.List.Folds.{list_all-map}
 use Rattle.std.proofs.lemmas.Bool.{le-ltb, lt-ltb}
 use Rattle.rl_text.specs.declared.name_map.NameMap.{NameMap}

@@ -12,14 +12,12 @@ use Rattle.net_lang.specs.declared.reader.rules.Target.{Target}
 use Rattle.net_lang.specs.declared.reader.rules.Target.TheVariants as target
 use Rattle.net_lang.specs.declared.reader.scope.Place.TheVariants as place
 use Rattle.net_lang.specs.declared.reader.draft.Draft as source
-use Rattle.net_lang.specs.declared.reader.rules.Stage.{Stage}
-use Rattle.net_lang.specs.declared.reader.rules.Stage.TheVariants as stage
-use Rattle.net_model.specs.Formula.{Formula, Equation, Net, net}
+use Rattle.net_model.specs.Formula.{Formula, Equation, Net}
 use Rattle.net_model.specs.Rules.{names_of, declared_names, equations, joins, delays, span, let_spans}
-use Rattle.net_lang.specs.Grammar.{Expression, written_nesting}
+use Rattle.net_lang.specs.Grammar.{Expression}
 use Rattle.net_lang.specs.Names.{resolved, knows, place_of}
 use Rattle.net_lang.specs.Forms.{Define, IsFormed}
-use Rattle.net_lang.specs.LineRules.{SoFar, nothing_yet, allows, after, equation, may_have, stage_after, with_equation, some_twice, joins_in, delays_in, is_over, body_span, first_of, first_rule}
+use Rattle.net_lang.specs.LineRules.{allows, after, equation, may_have, stage_after, with_equation, some_twice, joins_in, delays_in, body_span, first_of, first_rule}
 use Rattle.rl_text.specs.NameMap.{find, AddsName}
 use Rattle.net_lang.specs.Known.{known, known_by, known_in, Measures, HasSmallPlace, IsSmall, span_at, found_formula, found_span, finds_all, written_joins, written_delays}
 use Rattle.net_lang.specs.Draft.{net_of, so_far, known_as, outputs_in, rule_by, IsSound, IsPart, IsDraft, Adds}

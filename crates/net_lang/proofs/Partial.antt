@@ -1,18 +1,18 @@
 -- Some lines that break no rule begin the lists of a network that keeps the rules.
-use Rattle.std.proofs.Common.{◌≡◌, ◌≢◌, ℕ, ◌≤◌, true, List, [], ◌∷◌, ◌++◌, length, None, refl, sym, subst, arith}
+use Rattle.std.proofs.Common.{◌≡◌, ◌≢◌, ℕ, ◌≤◌, true, List, [], ◌∷◌, length, None, refl, sym, subst, arith}
 use Rattle.std.proofs.lemmas.List.{length-append}
 use Rattle.rl_text.specs.Lines.{Line, lines}
 use Rattle.line_lang.specs.Spelling.{AllFit}
 use Rattle.net_lang.specs.declared.reader.rules.Stage.{Stage}
 use Rattle.net_lang.specs.declared.reader.rules.Stage.TheVariants as stage
 use Rattle.net_lang.specs.declared.reader.rules.Target.TheVariants as target
-use Rattle.net_model.specs.Formula.{Net, net}
+use Rattle.net_model.specs.Formula.{Net}
 use Rattle.net_model.specs.Rules.{IsNetwork}
 use Rattle.net_lang.specs.Grammar.{Expression}
 use Rattle.net_lang.specs.Forms.{Form, Header, Inputs, Define, IsFormed}
 use Rattle.net_lang.specs.LineRules.{SoFar, nothing_yet, allows, after, equation, first_rule}
 use Rattle.net_lang.specs.Spelling.{networks, may_end, SpellsNetwork}
-use Rattle.net_lang.specs.Draft.{HasParts, IsSound, IsPart}
+use Rattle.net_lang.specs.Draft.{HasParts, IsPart}
 use Rattle.net_lang.proofs.Sound.{keeps, sound_let, sound_output, sound_inputs}
 
 -- ---- the lists

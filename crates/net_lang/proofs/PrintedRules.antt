@@ -11,7 +11,6 @@ use Rattle.rl_text.specs.Laws.{DecimalsAreNumbers}
 use Rattle.net_model.specs.Formula.{Formula, Equation, Net, net}
 use Rattle.net_model.specs.Rules.{is_let_name, is_port_name, begins_with_underscore, are_distinct, names_of, declared_names, joins, delays, nesting, span, IsOver, AreLets, let_spans, IsNetwork}
 use Rattle.net_lang.specs.declared.reader.rules.Target.{Target}
-use Rattle.net_lang.specs.declared.reader.rules.Target.TheVariants as target
 use Rattle.net_lang.specs.Grammar.{IsWritten, written_nesting}
 use Rattle.net_lang.specs.Names.{resolved}
 use Rattle.net_lang.specs.Forms.{Form}

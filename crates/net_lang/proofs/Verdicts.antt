@@ -1,15 +1,12 @@
 -- The lines of networks are read and judged as those of a language of lines.
-use Rattle.std.proofs.Common.{◌≡◌, ℕ, ◌+◌, ◌≤◌, true, false, ltb, List, [], ◌∷◌, ◌++◌, length, None, refl, sym, ap, ◌∙◌, arith}
+use Rattle.std.proofs.Common.{◌≡◌, true, false, ltb, length, None, refl}
 use Rattle.std.proofs.lemmas.Bool.{le-ltb}
-use Rattle.std.proofs.lemmas.List.{length-append}
 use Rattle.line_lang.specs.Language.{IsRead}
-use Rattle.net_lang.specs.declared.reader.rules.Target.TheVariants as target
 use Rattle.net_lang.specs.declared.reader.rules.Stage.TheVariants as stage
 use Rattle.net_lang.specs.declared.reader.draft.Draft as source
-use Rattle.net_model.specs.Formula.{Net}
-use Rattle.net_lang.specs.Forms.{Form, Header, Inputs, Define}
+use Rattle.net_lang.specs.Forms.{Header}
 use Rattle.net_lang.specs.FormReading.{form_at}
-use Rattle.net_lang.specs.LineRules.{SoFar, allows, after, extended, equation, first_rule, joins_in, delays_in}
+use Rattle.net_lang.specs.LineRules.{allows, first_rule, joins_in, delays_in}
 use Rattle.net_lang.specs.Spelling.{networks}
 use Rattle.net_lang.specs.Draft.{net_of, so_far, IsDraft, Adds}
 use Rattle.net_lang.proofs.Partial.{part_after}

@@ -1,5 +1,5 @@
 -- A text spells a module or breaks a rule first; and what it spells is valid.
-use Rattle.std.proofs.Common.{◌≡◌, ◌≢◌, ℕ, zero, suc, ◌+◌, ◌≤◌, ◌<◌, Bool, true, false, List, [], ◌∷◌, ◌++◌, length, Option, Some, None, refl, sym, ap, subst, ◌∙◌, arith, inl, inr, ◌⊎◌, length-append}
+use Rattle.std.proofs.Common.{◌≡◌, ◌≢◌, ℕ, zero, suc, ◌<◌, Bool, true, false, List, [], ◌∷◌, ◌++◌, length, Option, Some, None, refl, sym, ap, ◌∙◌, arith, inl, inr, ◌⊎◌, length-append}
 use Rattle.std.specs.Prelude.{take}
 use Rattle.rl_text.specs.declared.token.Token.{Token}
 use Rattle.rl_text.specs.declared.token.Style.TheVariants as style
@@ -11,7 +11,7 @@ use Rattle.circuit.specs.Valid.{IsValid}
 use Rattle.verilog_text.specs.declared.rule.Rule.{Rule}
 use Rattle.verilog_text.specs.declared.rule.Rule.TheVariants as rule
 use Rattle.verilog_text.specs.Grammar.{Form, Header, Input, Output, Wire, Reg, Assign, Always, End}
-use Rattle.verilog_text.specs.Statements.{Statement, Stage, Start, Declarations, Actions, Finished, stage_after, MayPrecede, Opens, Leads, AreInOrder, AreStatements, first_line, FailsAt}
+use Rattle.verilog_text.specs.Statements.{Statement, Stage, Start, Declarations, Actions, Finished, stage_after, MayPrecede, Opens, Leads, AreInOrder, AreStatements, first_line}
 use Rattle.verilog_text.specs.Reading.{statement_at}
 use Rattle.verilog_text.specs.Judging.{SoFar, nothing_yet, after, first_of, first_rule, breaks_name, breaks_order, breaks_width, breaks_limit, module_of}
 use Rattle.verilog_text.specs.Spelling.{AllStand, FirstBroken, AreModule, SpellsModule, BreaksFirst, IsBroken}

@@ -1,6 +1,6 @@
 -- Statements that break no rule stay sound with one more that breaks none.
-use Rattle.std.proofs.Common.{◌≡◌, ℕ, ◌+◌, ◌≤◌, Bool, true, false, not, cond, ◌||◌, List, length, Option, Some, None, refl, sym, ap, subst, ◌∙◌, arith, codes}
-use Rattle.std.specs.Prelude.{slice_get, is_some}
+use Rattle.std.proofs.Common.{◌≡◌, ℕ, ◌+◌, Bool, true, false, not, cond, ◌||◌, List, length, Option, Some, None, refl, sym, ap, subst, ◌∙◌, codes}
+use Rattle.std.specs.Prelude.{slice_get}
 use Rattle.std.specs.Str.{bytes_eq}
 use Rattle.std.proofs.lemmas.Bool.{or_parts}
 use Rattle.circuit.specs.declared.bit.Target.{Target}
@@ -13,7 +13,7 @@ use Rattle.verilog_text.specs.Judging.{SoFar, Declared, Meaning, ClockOrReset, I
 use Rattle.verilog_laws.specs.Sound.{IsSound}
 use Rattle.verilog_laws.proofs.Ports.{has_few}
 use Rattle.verilog_laws.proofs.Rules.{Keeps, keeps, not_false, port_parts, own_parts, not_over, some_width}
-use Rattle.verilog_laws.proofs.Sound.{clock_more, input_more, assign_more, sound_clock, sound_input, sound_output, sound_wire, sound_reg, sound_header, sound_assign, sound_next}
+use Rattle.verilog_laws.proofs.Sound.{clock_more, input_more, sound_clock, sound_input, sound_output, sound_wire, sound_reg, sound_header, sound_assign, sound_next}
 use Rattle.verilog_laws.proofs.Resolved.{resolved_in_range, named_given}
 
 header_stays : (x : SoFar) (n : List ℕ) (ports : List (List ℕ)) → Keeps x (g.Header n ports) → IsSound (after x (g.Header n ports))

@@ -1,8 +1,7 @@
-use Rattle.std.proofs.Common.{◌≡◌, ℕ, ◌+◌, ◌*◌, ◌<◌, ◌≤◌, false, [], length, get_or, set, subst, sym, ap, ◌∙◌, refl, arith}
-use Rattle.std.specs.Prelude.{slice_index_or}
+use Rattle.std.proofs.Common.{◌≡◌, ◌<◌, false, [], length, get_or, subst, sym, ap, ◌∙◌, refl, arith}
 use Rattle.circuit.specs.Meaning.{rows_after}
 use Rattle.cycle_sim.specs.Levels.{shifted}
-use Rattle.cycle_sim.specs.Marked.{IsMarked, IsUnmarked}
+use Rattle.cycle_sim.specs.Marked.{IsMarked}
 use Rattle.cycle_sim.specs.UpToDate.{IsSeen}
 use Rattle.cycle_sim.specs.Shifts.{Edging}
 use Rattle.cycle_sim.proofs.Listed.{none_through}

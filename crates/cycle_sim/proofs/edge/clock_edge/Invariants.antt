@@ -1,4 +1,4 @@
-use Rattle.std.proofs.Common.{◌≡◌, ◌-◌, ◌≤◌, ◌<◌, ◌*◌, length}
+use Rattle.std.proofs.Common.{◌≡◌, ◌-◌, ◌<◌, ◌*◌, length}
 use Rattle.cycle_sim.specs.Marked.{NoneFrom, IsMarked}
 use Rattle.cycle_sim.specs.Shifts.{Edging}
 use Rattle.cycle_sim.proofs.edge.clock_edge.Given as goal

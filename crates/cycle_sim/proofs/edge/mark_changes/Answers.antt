@@ -1,5 +1,4 @@
-use Rattle.std.proofs.Common.{◌≡◌, ℕ, ◌+◌, ◌-◌, ◌*◌, ◌<◌, ◌≤◌, [], length, get_or, subst, sym, ap, ◌∙◌, inl, inr, arith}
-use Rattle.std.specs.Prelude.{slice_index_or}
+use Rattle.std.proofs.Common.{◌≡◌, ℕ, ◌+◌, ◌-◌, ◌<◌, ◌≤◌, [], length, get_or, subst, sym, ap, ◌∙◌, inl, arith}
 use Rattle.cycle_sim.specs.Marked.{HasAll, IsMarked, HasMore}
 use Rattle.cycle_sim.specs.Operands.{place, Bit}
 use Rattle.cycle_sim.proofs.Listed.{more_on}

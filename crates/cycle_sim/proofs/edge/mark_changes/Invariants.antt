@@ -1,4 +1,4 @@
-use Rattle.std.proofs.Common.{◌≡◌, ◌+◌, ◌-◌, [], length, get_or}
+use Rattle.std.proofs.Common.{◌+◌, ◌-◌, [], length, get_or}
 use Rattle.std.specs.Prelude.{◌⊎◌}
 use Rattle.cycle_sim.specs.Marked.{HasMore, IsMarked}
 use Rattle.cycle_sim.specs.Shifts.{AreSeen, StaysSame}

@@ -1,5 +1,4 @@
-use Rattle.std.proofs.Common.{◌≡◌, [], get_or, subst, sym, arith}
-use Rattle.cycle_sim.specs.UpToDate.{IsSeen}
+use Rattle.std.proofs.Common.{arith}
 use Rattle.cycle_sim.proofs.Shifting.{shift_seen, quiet_row}
 use Rattle.cycle_sim.proofs.edge.shift_register.Goals as goal
 

@@ -1,5 +1,5 @@
-use Rattle.std.proofs.Common.{◌<◌, ◌^◌, ◌*◌, ◌-◌, ◌%◌, arith, refl, bit_and}
-use Rattle.cycle_sim.proofs.Bits.{FirstBit, no_bit, some_bit, and_small}
+use Rattle.std.proofs.Common.{arith, refl}
+use Rattle.cycle_sim.proofs.Bits.{no_bit, some_bit, and_small}
 use Rattle.cycle_sim.proofs.marks.first_bit.Goals as goal
 
 pub returns-then-rest-eq0-clause-none : goal.returns-then-rest-eq0-clause-none

@@ -1,4 +1,4 @@
-use Rattle.std.proofs.Common.{◌≡◌, ℕ, ◌+◌, ◌*◌, ◌/◌, ◌%◌, ◌<◌, ◌≤◌, arith}
+use Rattle.std.proofs.Common.{◌≡◌, ◌/◌, ◌%◌, arith}
 use Rattle.cycle_sim.proofs.Words.{same_on}
 use Rattle.cycle_sim.proofs.row.first_change.Goals as goal
 

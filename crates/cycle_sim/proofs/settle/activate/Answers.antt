@@ -1,9 +1,8 @@
-use Rattle.std.proofs.Common.{◌≡◌, ◌≢◌, ℕ, ◌+◌, ◌*◌, ◌<◌, ◌≤◌, refl, ap, ◌∙◌, sym, subst, inl, inr, arith, Some, length}
+use Rattle.std.proofs.Common.{◌≡◌, ◌<◌, refl, ap, ◌∙◌, sym, subst, inl, inr, arith, Some, length}
 use Rattle.std.specs.Prelude.{slice_get}
 use Rattle.std.proofs.lemmas.Option.{slice_get_read}
 use Rattle.circuit.specs.Circuit.{Assignment}
-use Rattle.circuit.specs.Meaning.{State, level, at, put}
-use Rattle.cycle_sim.specs.Marked.{IsUnmarked}
+use Rattle.circuit.specs.Meaning.{level, at, put}
 use Rattle.cycle_sim.specs.UpToDate.{IsUpToDate}
 use Rattle.cycle_sim.proofs.Bits.{mark_either}
 use Rattle.cycle_sim.proofs.Seen.{unmarked_less}

@@ -1,5 +1,5 @@
 use Rattle.std.proofs.Common.{◌≡◌, ◌-◌, length}
-use Rattle.circuit.specs.Meaning.{State, HasLevels}
+use Rattle.circuit.specs.Meaning.{HasLevels}
 use Rattle.cycle_sim.specs.Marked.{NoneFrom}
 use Rattle.cycle_sim.specs.UpToDate.{IsUpToDate}
 use Rattle.cycle_sim.proofs.settle.settle.Given as goal

@@ -1,4 +1,4 @@
-use Rattle.std.proofs.Common.{length, arith}
+use Rattle.std.proofs.Common.{arith}
 use Rattle.cycle_sim.proofs.Counting.{few_assigns, few_regs}
 use Rattle.cycle_sim.proofs.sim.few_items.Goals as goal
 

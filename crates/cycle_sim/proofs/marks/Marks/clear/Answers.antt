@@ -1,4 +1,4 @@
-use Rattle.std.proofs.Common.{◌≡◌, ℕ, ◌*◌, ◌/◌, ◌%◌, ◌^◌, ◌-◌, ◌<◌, length, get_or, arith, ap, bit_or, bit_and}
+use Rattle.std.proofs.Common.{◌*◌, ◌/◌, ◌%◌, ◌^◌, ◌-◌, ◌<◌, length, arith, ap, bit_and}
 use Rattle.std.proofs.lemmas.List.{get_or_read}
 use Rattle.cycle_sim.proofs.Bits.{mark_cleared, clear_stays}
 use Rattle.cycle_sim.proofs.marks.Marks.clear.Goals as goal

@@ -1,7 +1,6 @@
-use Rattle.std.proofs.Common.{◌≡◌, ℕ, ◌+◌, ◌*◌, ◌/◌, ◌%◌, get_or, arith, ap, sym, ◌∙◌, subst}
+use Rattle.std.proofs.Common.{◌≡◌, ◌/◌, ◌%◌, get_or, arith, ap, sym, ◌∙◌}
 use Rattle.std.proofs.lemmas.List.{get_or_read}
 use Rattle.std.specs.Int.{bit_at}
-use Rattle.cycle_sim.specs.Marked.{NoneFrom}
 use Rattle.cycle_sim.proofs.Bits.{none_at_start, none_on, marked_at}
 use Rattle.cycle_sim.proofs.marks.Marks.first.Goals as goal
 

@@ -1,4 +1,4 @@
-use Rattle.std.proofs.Common.{◌≡◌, ℕ, ◌*◌, ◌/◌, ◌%◌, ◌<◌, ◌≤◌, ◌==◌, false, get_or, ap, sym, ◌∙◌, length, subst, arith}
+use Rattle.std.proofs.Common.{false, get_or, ap, sym, ◌∙◌}
 use Rattle.std.proofs.lemmas.Bool.{le-ltb}
 use Rattle.cycle_sim.proofs.Words.{row_bit, row_past}
 use Rattle.cycle_sim.proofs.row.Row.bit.Goals as goal

@@ -1,6 +1,6 @@
-use Rattle.std.proofs.Common.{◌≡◌, ℕ, ◌*◌, ◌<◌, ◌≤◌, ◌∷◌, false, get_or, ap, sym, ◌∙◌, length, subst, arith}
+use Rattle.std.proofs.Common.{◌≡◌, ap, length, subst, arith}
 use Rattle.cycle_sim.specs.Marked.{mark_at}
-use Rattle.cycle_sim.specs.Rows.{row_of, moved_at}
+use Rattle.cycle_sim.specs.Rows.{moved_at}
 use Rattle.cycle_sim.proofs.Words.{row_same, row_long}
 use Rattle.cycle_sim.proofs.row.Row.change.Goals as goal
 

@@ -1,4 +1,4 @@
-use Rattle.std.proofs.Common.{◌≡◌, ℕ, ◌*◌, ◌≤◌, ap, sym, ◌∙◌, length, subst, arith}
+use Rattle.std.proofs.Common.{ap, sym, ◌∙◌, length, subst, arith}
 use Rattle.cycle_sim.specs.Levels.{shifted}
 use Rattle.cycle_sim.specs.Rows.{row_of, AllPulled}
 use Rattle.cycle_sim.proofs.Grown.{refilled}

@@ -1,14 +1,12 @@
 use Rattle.std.proofs.Common.{◌≡◌, ◌∙◌, ℕ, ◌+◌, ◌*◌, ◌<◌, ◌≤◌, refl, ap, sym, subst, length, arith}
 use Rattle.std.specs.List.{length_refill}
 use Rattle.circuit.specs.Circuit.{Circuit}
-use Rattle.circuit.specs.Meaning.{State}
 use Rattle.cycle_sim.specs.Standing.{Standing}
 use Rattle.cycle_sim.specs.Levels.{HasAllLevels}
 use Rattle.cycle_sim.proofs.Edges.{edge_keeps}
 use Rattle.cycle_sim.specs.declared.sim.Sim.TheInside.{Inside}
 use Rattle.cycle_sim.specs.Marked.{IsUnmarked}
 use Rattle.cycle_sim.specs.Operands.{AreReaders, HasTaps}
-use Rattle.cycle_sim.specs.UpToDate.{IsUpToDate}
 use Rattle.cycle_sim.proofs.Quiet.{levels_after}
 use Rattle.cycle_sim.proofs.sim.Sim.advance.Goals as goal
 use Rattle.cycle_sim.proofs.sim.Sim.advance.Goals.{then-self, else-self}

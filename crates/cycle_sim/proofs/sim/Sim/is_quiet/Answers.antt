@@ -1,4 +1,3 @@
-use Rattle.std.proofs.Common.{◌≡◌, ℕ, ◌+◌, ◌<◌, ◌≤◌, length, ap, ◌∙◌, sym, subst, arith}
 use Rattle.cycle_sim.proofs.Quiet.{quiet_next, quiet_view}
 use Rattle.cycle_sim.proofs.sim.Sim.is_quiet.Goals as goal
 

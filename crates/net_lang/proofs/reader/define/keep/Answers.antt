@@ -1,5 +1,4 @@
-use Rattle.std.proofs.Common.{refl, ap, sym, ◌∙◌}
-use Rattle.net_model.specs.Formula.{Equation}
+use Rattle.std.proofs.Common.{refl, ap, ◌∙◌}
 use Rattle.net_model.specs.View.{formula}
 use Rattle.net_lang.specs.LineRules.{with_equation}
 use Rattle.net_lang.specs.Draft.{net_of}
