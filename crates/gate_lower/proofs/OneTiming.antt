@@ -1,12 +1,12 @@
 -- Gates have at most one timing: cycle by cycle, and in a cycle gate by gate, two timings have the same levels.
-use Rattle.std.proofs.Common.{◌≡◌, ℕ, zero, suc, ◌<◌, ◌≤◌, Bool, true, false, length, get_or, List, refl, ap, ◌∙◌, sym, subst, inl, inr, arith, Some}
+use Rattle.std.proofs.Common.{◌≡◌, ℕ, zero, suc, ◌<◌, ◌≤◌, true, false, length, get_or, List, refl, ap, ◌∙◌, sym, subst, inl, inr, arith, Some}
 use Rattle.std.specs.Prelude.{slice_get, not, ◌&&◌, ◌||◌, nat_le}
 use Rattle.std.proofs.lemmas.Bool.{cases_lt}
 use Rattle.std.proofs.lemmas.Bool.Decides.{nat_tests}
 use Rattle.std.proofs.lemmas.Option.{slice_get_within, slice_get-get_or}
 use Rattle.rl_time.specs.declared.time.Time.{Time}
 use Rattle.rl_time.specs.declared.time.Time.TheVariants.{At, Never}
-use Rattle.rl_time.specs.Time.{time_min, time_max, time_lt, time_inc, has_risen}
+use Rattle.rl_time.specs.Time.{time_lt, time_inc, has_risen}
 use Rattle.gate_lower.specs.declared.gates.Line.{Line}
 use Rattle.gate_lower.specs.declared.gates.Line.TheVariants as line
 use Rattle.gate_lower.specs.declared.gates.Gate.{Gate}
