@@ -51,3 +51,9 @@ pub fn one_window_cause()
     ensures one { (f : List Time → Time) (w n : ℕ) (d e : TabError) → IsCause f w n d → IsCause f w n e → d ≢ NoMemory → e ≢ NoMemory → d ≡ e }
     ensures none { (f : List Time → Time) (w n : ℕ) (e : TabError) → IsInReach f w n → length (window_rows f w n) ≤ 256 → IsCause f w n e → e ≡ NoMemory }
 {}
+
+/// A function has a table within a window, of at most 256 rows, or a cause that it has none.
+pub fn a_window_or_a_cause()
+    ensures { (f : List Time → Time) (w n : ℕ) →
+        (IsInReach f w n × (length (window_rows f w n) ≤ 256)) ⊎ ((e : TabError) × (e ≢ NoMemory) × IsCause f w n e) }
+{}

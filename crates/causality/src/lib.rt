@@ -13,7 +13,7 @@ mod tabulation;
 pub use checking::check_rows;
 pub use fault::{RowFault, TabError};
 pub use laws::{
-    conflict_by_places, one_row_fault, one_window_cause, sound_or_fault, tables_are_causal,
-    tables_are_invariant,
+    a_window_or_a_cause, conflict_by_places, one_row_fault, one_window_cause, sound_or_fault,
+    tables_are_causal, tables_are_invariant,
 };
 pub use tabulation::tabulate;

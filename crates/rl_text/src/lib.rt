@@ -24,8 +24,9 @@ pub use cursor::{LineWords, Lines, first_bad};
 pub use cut::{lexemes, line_at};
 pub use first::first_word;
 pub use laws::{
-    bad_where_no_tokens, decimals_are_numbers, front_is_longest, one_bad_place, one_first_word,
-    one_list_of_tokens, tokens_or_bad_place, written_texts_have_words,
+    a_first_word_or_none, bad_where_no_tokens, decimals_are_numbers, front_is_longest,
+    one_bad_place, one_first_word, one_list_of_tokens, tokens_or_bad_place,
+    written_texts_have_words,
 };
 pub use lexer::lex;
 pub use name::{Name, are_name_bytes, copy_names, is_name, numbered_name};
