@@ -11,7 +11,7 @@ use Rattle.causality.specs.declared.fault.RowFault.TheVariants as fault
 abbrev pub HasNoZero : Row → Type 0
 HasNoZero r = list_any is_zero r.entries ≡ false
 
--- some entry of the row is 0, and at this place stands its first entry that is greater than its output
+-- some entry of the row is 0, and at this place is its first entry that is greater than its output
 pub record IsAcausalAt (k : ℕ) (r : Row) : Type 0 where
   pub some_zero : IsTrue (list_any is_zero r.entries)
   pub entry : ℕ

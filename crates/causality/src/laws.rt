@@ -32,7 +32,7 @@ pub fn conflict_by_places()
         (Conflict r s ↔ IsTrue (entries_agree r.out r.entries s.entries)) }
 {}
 
-/// The function of sound rows is causal: up to any cycle, it rests on what the inputs do up to that cycle alone.
+/// The function of sound rows is causal: up to any cycle, it depends only on what the inputs do up to that cycle.
 pub fn tables_are_causal()
     ensures { (rows : List Row) → AreSound rows → IsCausal (table_function rows) }
 {
@@ -45,7 +45,7 @@ pub fn tables_are_invariant()
     ensures { (rows : List Row) → IsInvariant (table_function rows) }
 {}
 
-/// A function has at most one cause that it has no table within a window, want of memory apart, and none where its rows
+/// A function has at most one cause for having no table within a window, other than running out of memory, and none where its rows
 /// are a table's.
 pub fn one_window_cause()
     ensures one { (f : List Time → Time) (w n : ℕ) (d e : TabError) → IsCause f w n d → IsCause f w n e → d ≢ NoMemory → e ≢ NoMemory → d ≡ e }

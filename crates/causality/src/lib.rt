@@ -1,4 +1,4 @@
-//! What makes a table stand for a function of times, and the tables of networks.
+//! Soundness of tables, and tabulation of networks.
 //!
 //! Causal and invariant functions are those of Smith, *Space-Time Algebra* (ISCA 2018).
 //!

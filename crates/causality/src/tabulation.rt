@@ -26,8 +26,8 @@ struct Window {
 
 /// The table of a network's output at a place, from 0, within a window of cycles: at the lists of times from 0 to
 /// `window`, or never, of which the least is 0. They are walked with the first input slowest, and never last. A list at
-/// which the output is a number gives a row, in which each time greater than that is `-`; a row that stands already isn't
-/// repeated. `TooWide` comes where there are more than 65,536 lists of such times; else `TooLate` with the first value that
+/// which the output is a number gives a row, in which each time greater than that is `-`; a row that is there already isn't
+/// repeated. `TooWide` is answered if there are more than 65,536 lists of such times; else `TooLate` with the first value that
 /// is greater than 255; else `TooManyRows` where there are more than 256 rows. Each list is valued once.
 pub fn tabulate(alloc: Global, n: &Network, out: u32, window: u32) -> Result<Table, TabError>
     requires output { out < length n.now.outputs }
@@ -189,7 +189,7 @@ fn has_start(list: &[Time]) -> bool
 }
 
 /// Whether no list before this one in the walk has the same row, which has this output. A list that differs from this one
-/// in times after the output alone has the same row, and the walk meets the one with the earliest such times first.
+/// only in times after the output has the same row, and the walk meets the one with the earliest such times first.
 fn is_first(last: u32, out: u8, list: &[Time]) -> bool
     requires small { last ≤ 1000000 }
     ensures { result ≡ is_first last out list.now }

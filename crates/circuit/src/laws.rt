@@ -10,7 +10,7 @@ pub fn one_history()
     ensures { (m : Circuit) (us : List (List Bool)) → IsOrdered m → HasOneHistory m us }
 {}
 
-/// Activations in which the assigns occur in their order lead to a settled state, whatever others stand
+/// Activations in which the assigns occur in their order lead to a settled state, whatever others are
 /// between them.
 pub fn settles_in_order()
     ensures { (m : Circuit) → IsOrdered m → SettlesInOrder m }

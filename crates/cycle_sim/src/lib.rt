@@ -1,6 +1,6 @@
 //! A cycle simulator of modules: the levels of a module, one clock cycle after another. It works only where levels change.
 //!
-//! `NoMemory` is answered where memory ran out.
+//! `NoMemory` is answered if memory ran out.
 #![tactic(auto)]
 
 mod edge;

@@ -107,7 +107,7 @@ filter_same f g zero h = refl
 filter_same f g (suc n) h =
     filter_next f n ∙ (ap (λ xs. xs ++ kept (f n) n) (filter_same f g n (λ k lt. h k (omega (arith, lt)))) ∙ (ap (λ b. filter g (places n) ++ kept b n) (h n (omega arith)) ∙ sym (filter_next g n)))
 
--- the count never falls, and it grows behind a place that passes
+-- the count never falls, and it grows after a place that passes
 pub count_mono : (test : ℕ → Bool) (m n : ℕ) → m ≤ n → count test m ≤ count test n
 count_mono test m zero le = let e : m ≡ 0 = omega (arith, le) in rw e (omega arith)
 count_mono test m (suc n) le = elim (cases_lt n m) [
@@ -130,7 +130,7 @@ count_apart test m n s t e = elim (cases_lt m n) [
   ]
 ]
 
--- a place that passes stands in the list of those that do, behind as many as there are before it
+-- a place that passes stands in the list of those that do, after as many as there are before it
 pub get_kept : (test : ℕ → Bool) (n p : ℕ) → p < n → test p ≡ true → slice_get (filter test (places n)) (count test p) ≡ Some p
 get_kept test zero p lt t = absurd (omega (arith, lt))
 get_kept test (suc n) p lt t = ap (λ xs. slice_get xs (count test p)) (filter_next test n) ∙ elim (cases_lt p n) [

@@ -91,7 +91,7 @@ module _ (nodes : List Node) (marks : List Bool) where
       let l : length xs ≡ length nodes = ap length e ∙ length_listed (longest_at nodes marks) (length nodes) in
       ap (λ n. map (count_positive xs) (places n)) l ∙ map_same (count_positive xs) (delay_number nodes marks) (length nodes) (λ k lt. counted xs k e (omega (arith, lt)))
 
--- one number more, and the count behind it
+-- one number more, and the count after it
 pub next_numbers : (test : ℕ → Bool) (n : ℕ) (xs ys : List ℕ) (c d : ℕ) → xs ≡ map (count test) (places n) → c ≡ count test n → ys ≡ xs ++ c ∷ [] → d ≡ c + one_if (test n) →
     (ys ≡ map (count test) (places (n + 1))) × (d ≡ count test (n + 1))
 next_numbers test n xs ys c d e f g h =

@@ -1,4 +1,4 @@
--- In the text of a module of gates few `~` and `(` stand one inside another.
+-- In the text of a module of gates few `~` and `(` are nested.
 use Rattle.std.proofs.Common.{◌≡◌, ℕ, zero, suc, ◌+◌, ◌≤◌, false, List, [], ◌∷◌, refl, arith}
 use Rattle.std.specs.Prelude.{All}
 use Rattle.std.proofs.lemmas.List.Elements.{All-append, All-nil, All-cons}

@@ -35,7 +35,7 @@ gate_places nodes marks = filter (is_gate nodes marks) (places (length nodes))
 abbrev pub delay_places : List Node → List Bool → List ℕ
 delay_places nodes marks = filter (is_delayed nodes marks) (places (length nodes))
 
--- the line of a node, which stands at this place
+-- the line of a node, which is at this place
 abbrev pub node_line : List Node → List Bool → ℕ → Node → Line
 node_line nodes marks place node.Never = line.Low
 node_line nodes marks place (node.Input i) = line.Input i

@@ -13,7 +13,7 @@ use Rattle.gate_lower.specs.Lowered.{lowered}
 abbrev pub planted : Net → List Node
 planted n = plant (plant (plant [] (input_trees (length n.inputs))) (let_trees n.lets)) (network_trees n)
 
--- the gates are those of the outputs' terms, which stand at these roots
+-- the gates are those of the outputs' terms, which are at these roots
 pub record AreLowered (n : Net) (g : Netlist) : Type 0 where
   pub roots : List Term
   pub roots_are : trees_at (planted n) roots ≡ network_trees n

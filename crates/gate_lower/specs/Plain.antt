@@ -11,7 +11,7 @@ use Rattle.gate_lower.specs.declared.gates.Delay.{Delay}
 use Rattle.gate_lower.specs.Netlist.{Output, Netlist}
 use Rattle.gate_lower.specs.Rules.{latch_bits, delay_bits, output_names}
 
--- the bit that a line is, by where the taps of the delays stand
+-- the bit that a line is, by where the taps of the delays are
 abbrev pub operand : (ℕ → ℕ → Logic) → Line → Logic
 operand tap line.Low = Zero
 operand tap (line.Input i) = Input i
@@ -24,12 +24,12 @@ gate_logic tap held (gate.Or p q) = Or (operand tap p) (operand tap q)
 gate_logic tap held (gate.And p q) = And (operand tap p) (operand tap q)
 gate_logic tap held (gate.Latch p q) = Or held (And (operand tap p) (Not (operand tap q)))
 
--- the numbers of the first registers of the delays, each behind the registers of those before it; the first has number h
+-- the numbers of the first registers of the delays, each after the registers of those before it; the first has number h
 abbrev pub first_registers : ℕ → List Delay → List ℕ
 first_registers h [] = []
 first_registers h (d ∷ delays) = h ∷ first_registers (h + d.width) delays
 
--- tap c of a delay, counted from 1, is the register c - 1 places behind its first
+-- tap c of a delay, counted from 1, is the register c - 1 places after its first
 abbrev pub tap_at : List ℕ → ℕ → ℕ → Logic
 tap_at firsts n c = Reg (slice_index_or firsts n 0 + (c - 1)) 0
 

@@ -18,7 +18,7 @@ is_positive numbers place = nat_lt 0 (slice_index_or numbers place 0)
 abbrev pub count_positive : List ℕ → ℕ → ℕ
 count_positive numbers place = length (filter (is_positive numbers) (places place))
 
--- the plan tells of each place what its marks give
+-- the plan has for each place what its marks give
 pub record IsPlan (nodes : List Node) (p : source.Plan) : Type 0 where
   pub marks : length p.marks.items ≡ length nodes
   pub longest : p.longest.items ≡ map (longest_at nodes p.marks.items) (places (length nodes))

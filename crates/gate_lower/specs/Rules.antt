@@ -50,7 +50,7 @@ register_bits g = delay_bits g.delays + held_bits g.gates
 abbrev pub output_names : List Output → List (List ℕ)
 output_names outputs = map (λ o. o.name) outputs
 
--- A gate takes directly only gates that stand before it; every other number is in range; no two gates are the same, and no two delays
+-- A gate takes directly only gates that are before it; every other number is in range; no two gates are the same, and no two delays
 -- have the same line.
 pub record IsNetlist (g : Netlist) : Type 0 where
   pub some_input : 1 ≤ length g.inputs

@@ -62,7 +62,7 @@ fn build(alloc: Global, g: &Gates) -> Result<Module, NoMemory>
 
 /// The module of gates, with one register for each bit: wire `wK` is gate K, and every wire and output is high exactly
 /// from its time on. No two wires are the same gate of the same operands, and in the module's text at most 64 of `~` and
-/// `(` stand one inside another.
+/// `(` are nested.
 pub fn emit(alloc: Global, g: &Gates) -> Result<Module, NoMemory>
     ensures module_is { IfOk result (λ m. m ≡ plain_module g.now) }
     ensures ports { IfOk result (λ m. (m.inputs ≡ g.now.inputs) × (m.outputs ≡ output_names g.now.outputs)) }

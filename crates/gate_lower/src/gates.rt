@@ -68,7 +68,7 @@ impl OutLine {
     }
 }
 
-/// Gates in an order in which each stands after the gates that it takes directly.
+/// Gates in an order in which each is after the gates that it takes directly.
 #[derive(Debug, Drop)]
 pub struct Gates {
     inputs: Vec<Name>,
@@ -121,7 +121,7 @@ impl Gates {
         self.outputs.as_slice()
     }
 
-    /// The gates, each behind those that it takes directly.
+    /// The gates, each after those that it takes directly.
     pub fn gates(&self) -> &[Gate]
         ensures { result.now ≡ self.now.gates }
     {

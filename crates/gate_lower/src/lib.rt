@@ -1,6 +1,6 @@
 //! From shared terms to gates, and from gates to Verilog modules.
 //!
-//! `NoMemory` is answered where memory ran out.
+//! `NoMemory` is answered if memory ran out.
 #![tactic(auto)]
 
 mod bits;

@@ -23,7 +23,7 @@ use term_store::{
     Node, Store, Term, places_count_subterms, reached_places_are_closed, terms_follow_nodes,
 };
 
-/// Why terms have no gates: they need more than 65,536 register bits, of which the number is told, or memory ran out.
+/// Why terms have no gates: they need more than 65,536 register bits, `TooManyBits` holds the number; or memory ran out.
 #[derive(Clone, Copy, Debug, PartialEq, Eq)]
 pub enum LowerError {
     TooManyBits(u64),
@@ -162,7 +162,7 @@ fn out_lines(
 
 /// The gates of the terms at some roots of a store, one output name for each: one gate for each distinct min, max and
 /// lt among their subterms, in ascending place, and one delay for each distinct subterm that is delayed, as wide as its
-/// longest delay. `TooManyBits` tells how many register bits they need, where that is over 65,536.
+/// longest delay. `TooManyBits` holds how many register bits they need, if that is over 65,536.
 pub fn lower(
     alloc: Global,
     store: &Store,

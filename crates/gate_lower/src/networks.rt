@@ -27,7 +27,7 @@ fn names(alloc: Global, bindings: &[Binding]) -> Result<Vec<Name>, NoMemory>
 }
 
 /// The gates of a network: its terms are planted in a store, so that equal ones are there once, and then lowered. A let
-/// that no output needs has no gate. `TooManyBits` tells how many register bits the terms need, where that is over
+/// that no output needs has no gate. `TooManyBits` holds how many register bits the terms need, if that is over
 /// 65,536.
 pub fn lower_network(alloc: Global, n: &Network) -> Result<Gates, LowerError>
     ensures gates { IfOk result (AreLowered n.now) }

@@ -31,7 +31,7 @@ pub trait LineReader<'a>: Drop {
 
     ghost size: { Self → ℕ } = { λ _. 0 };
 
-    /// Each line has at most one form, and `reading` tells it.
+    /// Each line has at most one form, which `reading` gives.
     fn grammar_is_read()
         ensures { IsRead language reading };
 

@@ -48,7 +48,7 @@ row_size ns row inputs numbers dashes few l trees noted =
     omega (arith, few, l, how_many ns numbers (number_terms row.out 0 row.entries) trees, ap length noted, dash_count row.out 0 inputs row.entries l)
 
 module _ (laws : PlantingLaws) where
-  -- a number's term goes behind those before it
+  -- a number's term goes after those before it
   pub number_more : (a b c : List Node) (y : ℕ) (es : List (Option ℕ)) (k e cycles : ℕ) (f : Option ℕ) (inputs at places : List Term) (d r : Term) → k < length es → get_or es k f ≡ Some e → cycles ≡ y - e
       → length es ≡ length inputs → AreInputs a inputs → places ≡ at ++ r ∷ [] → ArePlanted a b (number_terms y 0 (take k es)) at → IsPlanted b c (delayed (tree b (get_or inputs k d).0) cycles) r
       → ArePlanted a c (number_terms y 0 (take (k + 1) es)) places

@@ -30,12 +30,12 @@ dash_places (t ∷ inputs) (Some e ∷ entries) = dash_places inputs entries
 dash_places (t ∷ inputs) (None ∷ entries) = t ∷ dash_places inputs entries
 dash_places _ _ = []
 
--- the inputs stand at these places, in order
+-- the inputs are at these places, in order
 pub record AreInputs (nodes : List Node) (at : List Term) : Type 0 where
   pub within : All (λ t. t.0 < length nodes) at
   pub trees_are : trees_at nodes at ≡ input_trees (length at)
 
--- the rows' terms were planted in order, and the minterms stand at these places
+-- the rows' terms were planted in order, and the minterms are at these places
 pub record AreRowsPlanted (old nodes : List Node) (rows : List Row) (at : List Term) : Type 0 where
   pub is_nodes : IsNodes nodes
   pub grown : IsPrefix old nodes
@@ -43,7 +43,7 @@ pub record AreRowsPlanted (old nodes : List Node) (rows : List Row) (at : List T
   pub within : All (λ t. t.0 < length nodes) at
   pub trees_are : trees_at nodes at ≡ map minterm rows
 
--- what the laws of the store say of planting: a term that stands there is not planted again, and a place keeps its term
+-- what the laws of the store say of planting: a term that is there is not planted again, and a place keeps its term
 pub record PlantingLaws : Type 0 where
   pub planted_stay : (nodes : List Node) (t : Tree) (place : ℕ) → IsNodes nodes → place < length nodes → tree_at nodes place ≡ t → plant_one nodes t ≡ nodes
   pub places_stay : (old nodes : List Node) (place : ℕ) → IsPrefix old nodes → place < length old → tree_at nodes place ≡ tree_at old place

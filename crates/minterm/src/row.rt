@@ -70,7 +70,7 @@ fn note_dashes(inputs: &[Term], entries: &[Option<u8>], dashes: &mut Vec<Term>)
     }
 }
 
-/// Plants the term that comes where all of these come at once, and answers its place.
+/// Plants the term that rises if all of these rise at once, and returns its place.
 fn put_together(store: &mut Store, terms: &[Term]) -> Term
     requires nodes { IsNodes store.old.nodes }
     requires some { 1 ≤ length terms.now }
@@ -92,7 +92,7 @@ fn put_together(store: &mut Store, terms: &[Term]) -> Term
     }
 }
 
-/// Plants a term as far as it comes before all others, and answers its place.
+/// Plants `lt(term, min of others)`, or `term` itself if there are none, and returns its place.
 fn put_before(store: &mut Store, term: Term, others: &[Term]) -> Term
     requires nodes { IsNodes store.old.nodes }
     requires term { term.0 < length store.old.nodes }

@@ -23,7 +23,7 @@ use Rattle.net_lang.specs.Draft.{net_of, so_far, IsPart, IsDraft, Adds, KnowsInp
 use Rattle.net_lang.proofs.Knowing.{known_declared, known_input}
 use Rattle.net_lang.proofs.Partial.{parts_inputs, part_after}
 
--- of the names that are to be declared behind `old`, some are declared and some are left
+-- of the names that are to be declared after `old`, some are declared and some are left
 pub record Declaring (scope : NameMap Known) (old all inputs left : List (List ℕ)) : Type 0 where
   pub known : KnowsInputs scope inputs
   pub twice : some_twice inputs left ≡ some_twice old all

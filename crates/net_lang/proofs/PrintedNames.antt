@@ -37,7 +37,7 @@ or_from : (a b : Bool) → a ≡ false → b ≡ false → (a || b) ≡ false
 or_from false b e g = g
 or_from true b e g = absurd cc
 
--- of distinct names those behind stand nowhere before
+-- of distinct names those after stand nowhere before
 pub apart : (xs ys : List (List ℕ)) (k : ℕ) → are_distinct (xs ++ ys) ≡ true → k < length ys → list_any (bytes_eq (at ys k)) xs ≡ false
 apart [] ys k d l = refl
 apart (x ∷ xs) ys k d l =

@@ -1,4 +1,4 @@
--- The words of the printing of a network: those of its lines, each with a newline behind it.
+-- The words of the printing of a network: those of its lines, each with a newline after it.
 use Rattle.std.proofs.Common.{◌≡◌, ℕ, true, false, not, List, [], ◌∷◌, ◌++◌, map, refl, sym, ap, subst, ◌∙◌, append_assoc}
 use Rattle.std.specs.Prelude.{codes, decimal, slice_index_or}
 use Rattle.std.specs.List.{list_all, AllByRecursion}

@@ -83,7 +83,7 @@ abbrev pub Declares : List (List ℕ) → List (List ℕ) → NameMap Known → 
 Declares old names scope new true = (some_twice old names ≡ false) × (new ≡ old ++ names) × KnowsInputs scope new
 Declares old names scope new false = some_twice old names ≡ true
 
--- what is known of the name of a let, which comes after so many lets and has this span, or of an output
+-- what is known of the name of a let, which is after that many lets and has this span, or of an output
 abbrev pub known_as : Target → ℕ → ℕ → Known
 known_as target.Let at span = known (place.Let at) span
 known_as target.Output at span = known place.Output 0

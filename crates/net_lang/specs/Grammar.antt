@@ -41,7 +41,7 @@ IsWritten (Max a b) = IsWritten a × IsWritten b
 IsWritten (Lt a b) = IsWritten a × IsWritten b
 IsWritten (Inc a n) = IsWritten a × (is_plain n ≡ true)
 
--- how many operators stand one inside another, at most
+-- how many operators are nested, at most
 abbrev pub written_nesting : Expression → ℕ
 written_nesting Never = 0
 written_nesting (Name t) = 0
@@ -50,7 +50,7 @@ written_nesting (Max a b) = suc (max (written_nesting a) (written_nesting b))
 written_nesting (Lt a b) = suc (max (written_nesting a) (written_nesting b))
 written_nesting (Inc a n) = suc (written_nesting a)
 
--- the words are an expression of at most d operators one inside another, and then the rest
+-- the words are an expression of at most d nested operators, and then the rest
 pub record Spells (d : ℕ) (ws : List Word) (t : Expression) (rest : List Word) : Type 0 where
   pub words : ws ≡ spelled t ++ rest
   pub written : IsWritten t

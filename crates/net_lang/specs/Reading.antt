@@ -81,7 +81,7 @@ operation key.Lt t inner ws = pair inner ws >>= λ x. Some (Lt x.0 x.1, x.2)
 operation key.Inc t inner ws = delay inner ws >>= λ x. Some (Inc x.0 x.1, x.2)
 operation k t inner ws = leaf k t ws
 
--- an expression of at most this many operators one inside another
+-- an expression of at most this many nested operators
 unfoldable pub expr_at : ℕ → List Word → Read Expression
 expr_at d [] = None
 expr_at zero (w ∷ ws) = leaf (key_of w) w.bytes ws

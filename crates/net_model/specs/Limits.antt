@@ -17,7 +17,7 @@ most_joins = 16384
 abbrev pub most_delays : ℕ
 most_delays = 16384
 
--- the most operators one inside another
+-- the most nested operators
 abbrev pub most_nesting : ℕ
 most_nesting = 64
 

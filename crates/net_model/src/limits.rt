@@ -10,7 +10,7 @@ pub const MOST_JOINS: u32 = 16384;
 /// The most `inc`.
 pub const MOST_DELAYS: u32 = 16384;
 
-/// The most operators one inside another.
+/// The most nested operators.
 pub const MOST_NESTING: u32 = 64;
 
 /// The greatest span of a let or an output, in cycles.

@@ -1,6 +1,6 @@
 //! The top call of racelog: words, files and two sinks in, a status out.
 //!
-//! `NoMemory` is answered where memory ran out.
+//! `NoMemory` is answered if memory ran out.
 #![tactic(auto)]
 
 pub mod laws;

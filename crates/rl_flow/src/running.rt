@@ -36,7 +36,7 @@ pub fn run<S: Shelf, K: Sink>(
     out: &mut K,
     err: &mut K,
 ) -> Status
-    // Status 2 comes exactly for words that are no command.
+    // Status 2 is answered exactly for words that are no command.
     ensures words { (result ≡ Status.Words) ↔ (command_of (texts_of words.now) ≡ None) }
 
     // What each status says, and what it leaves in standard output and in standard error.

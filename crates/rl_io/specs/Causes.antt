@@ -5,10 +5,10 @@ use Rattle.std.specs.Prelude.{ℕ, ◌+◌, ◌-◌, ◌^◌, ◌≤◌, min}
 abbrev pub counted : ℕ → ℕ → ℕ
 counted count n = min (count + n) (2 ^ 64 - 1)
 
--- the count rose, or stands at its last value
+-- the count rose, or is at its last value
 abbrev pub Rose : ℕ → ℕ → Type 0
 Rose before now = min (before + 1) (2 ^ 64 - 1) ≤ now
 
--- the count rose by more than n, or stands at its last value
+-- the count rose by more than n, or is at its last value
 abbrev pub RoseBy : ℕ → ℕ → ℕ → Type 0
 RoseBy n before now = min (before + n + 1) (2 ^ 64 - 1) ≤ now

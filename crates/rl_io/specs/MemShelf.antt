@@ -46,7 +46,7 @@ given_after given Failed = given
 abbrev pub after_fetch : HeldFiles → Fetched → HeldFiles
 after_fetch s answer = record s { calls = counted s.calls 1; given = given_after s.given answer }
 
--- a fetch that doesn't fail gives this many bytes, and tells the end where that is none
+-- a fetch that doesn't fail gives this many bytes, and reports the end if that is none
 abbrev pub Gives : Fetched → ℕ → Type 0
 Gives (Got n) size = n ≡ size
 Gives End size = size ≡ 0

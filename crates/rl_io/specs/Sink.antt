@@ -10,12 +10,12 @@ abbrev pub PutAdds : Put → List ℕ → Option (List ℕ) → Option (List ℕ
 PutAdds (Took n) piece before now = (1 ≤ n) × (n ≤ length piece) × Adds before now (take n piece)
 PutAdds Failed piece before now = now ≡ before
 
--- a failure is told only where the count of faults rose
+-- a failure is reported only if the count of faults rose
 abbrev pub PutFails : Put → ℕ → ℕ → Type 0
 PutFails (Took n) before now = Unit {0}
 PutFails Failed before now = Rose before now
 
--- what stays as it is over all puts of a sink that tells it: how many bytes it takes, and the numbers of the puts that are to fail
+-- what stays as it is over all puts of a sink that exposes it: how many bytes it takes, and the numbers of the puts that are to fail
 pub record SinkPlan : Type 0 where
   pub room : ℕ
   pub fails : List ℕ

@@ -1,4 +1,4 @@
--- The system's files and streams: what is counted of them. What they hold is not told.
+-- The system's files and streams: what is counted of them. What they hold is not exposed.
 use Rattle.std.specs.Prelude.{ℕ, Bool, true, false}
 use Rattle.rl_io.specs.Causes.{counted}
 use Rattle.rl_io.specs.declared.shelf.Fetched.{Fetched}

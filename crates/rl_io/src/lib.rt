@@ -1,7 +1,7 @@
 //! Where files are read and text is written: a shelf of files and a sink of bytes, as traits, over memory and over
 //! the system.
 //!
-//! `NoMemory` is answered where memory ran out.
+//! `NoMemory` is answered if memory ran out.
 #![tactic(auto)]
 
 pub mod laws;

@@ -33,7 +33,7 @@ impl From<AllocError> for LoadError {
     }
 }
 
-// A buffer of n bytes. (The caller's proof sees its length alone, and no list of so many zeros.)
+// A buffer of n bytes. (The caller's proof sees only its length, and no list of that many zeros.)
 fn zeros(alloc: Global, n: usize) -> Result<Vec<u8>, AllocError>
     ensures { IfOk result (λ v. vec_len v ≡ n) }
 {

@@ -7,7 +7,7 @@ ghost use Rattle.rl_io.specs.MemShelf.{IsHeldFiles, faults_under, IsToFail, afte
 use crate::shelf::{Fetched, Shelf};
 use std::marker::Model;
 
-/// Files in memory, for a run without a system. It tells its files and the numbers of the calls that are to fail.
+/// Files in memory, for a run without a system. It exposes its files and the numbers of the calls that are to fail.
 #[derive(Drop)]
 pub struct MemShelf {
     files: Vec<(String, Vec<u8>)>,

@@ -7,7 +7,7 @@ use rl_time::NoMemory;
 use std::alloc::Global;
 use std::marker::Model;
 
-/// Keeps what it takes in memory, for a run without a system. It tells what it took, its room and the numbers of the
+/// Keeps what it takes in memory, for a run without a system. It exposes what it took, its room and the numbers of the
 /// calls that are to fail.
 #[derive(Drop)]
 pub struct MemSink {

@@ -15,7 +15,7 @@ pub enum Fetched {
 
 /// Files by their names.
 pub trait Shelf {
-    /// The files, where the shelf tells them. No call changes them.
+    /// The files, if the shelf exposes them. No call changes them.
     ghost contents: { Self → Option Files };
 
     /// How often a fetch of this name has failed. It never falls.
@@ -24,14 +24,14 @@ pub trait Shelf {
     /// How many bytes were handed out, up to 2^64 - 1. It never falls.
     ghost given: { Self → ℕ };
 
-    /// The numbers of the calls that are to fail, where the shelf tells them. No call changes them. A caller that
+    /// The numbers of the calls that are to fail, if the shelf exposes them. No call changes them. A caller that
     /// knows them can know that no call fails.
     ghost plan: { Self → Option (List ℕ) } = { λ _. None };
 
     /// Reads bytes of the file of this name, from the place `at` on, into the front of `buf`, which isn't empty.
     ///
     /// `Got(n)` says that n bytes were read, from 1 to the length of `buf`; there may be more. `End` says that the
-    /// file has no byte at this place. `Failed` comes only where the faults under this name rose, as where no file
+    /// file has no byte at this place. `Failed` is answered only if the faults under this name rose, as when no file
     /// has the name.
     fn fetch(&mut self, name: &str, at: u64, buf: &mut [u8]) -> Fetched
         requires { 0 < length buf.old }

@@ -12,19 +12,19 @@ pub enum Put {
 
 /// Takes bytes, one after another.
 pub trait Sink {
-    /// The bytes that it took, where the sink tells them.
+    /// The bytes that it took, if the sink exposes them.
     ghost written: { Self → Option (List ℕ) };
 
     /// How often a put has failed. It never falls.
     ghost faults: { Self → ℕ };
 
-    /// How many bytes the sink takes, and the numbers of the calls that are to fail, where it tells them. No call
+    /// How many bytes the sink takes, and the numbers of the calls that are to fail, if it exposes them. No call
     /// changes them. A caller that knows them can know that no call fails.
     ghost plan: { Self → Option SinkPlan } = { λ _. None };
 
     /// Takes bytes from the front of `piece`, which isn't empty.
     ///
-    /// `Took(n)` says that the first n bytes were taken, at least one. `Failed` comes only where the faults rose, and
+    /// `Took(n)` says that the first n bytes were taken, at least one. `Failed` is answered only if the faults rose, and
     /// then nothing was taken.
     fn put(&mut self, piece: &[u8]) -> Put
         requires { 0 < length piece.now }

@@ -43,7 +43,7 @@ OneCause = (text : List ℕ) (e f : NetError) → net.IsCause text e → net.IsC
 
 -- ---- networks
 
--- an error that names a rule isn't want of memory
+-- an error that names a rule isn't `NoMemory`
 names_rule : (r : Rule) (k : ℕ) → net.error_of r k ≡ error.NoMemory → ⊥
 names_rule rule.Syntax k e = absurd (cc)
 names_rule rule.Name k e = absurd (cc)

@@ -48,7 +48,7 @@ abbrev pub planted_source : Source → List Node
 planted_source (OfNetwork n) = planted n
 planted_source (OfTable t) = plant [] (table_terms t)
 
--- the gates are those of the source's terms, which stand at these roots of the store
+-- the gates are those of the source's terms, which are at these roots of the store
 pub record AreSourceGates (s : Source) (g : Netlist) : Type 0 where
   pub roots : List Term
   pub roots_are : trees_at (planted_source s) roots ≡ terms_of s

@@ -33,7 +33,7 @@ use Rattle.rl_jobs.specs.declared.source.Source.TheVariants.{OfNetwork, OfTable}
 abbrev pub table_word : Word
 table_word = record { kind = kind.Name; bytes = codes "racetable" }
 
--- the text's first word is `racetable`, and no bad byte stands before its end
+-- the text's first word is `racetable`, and no bad byte is before its end
 abbrev pub IsTableText : List ℕ → Type 0
 IsTableText bytes = BeginsWith style.Race bytes table_word
 

@@ -23,7 +23,7 @@ use term_store::{Store, terms_have_the_networks_values};
 use verilog_laws::printing_spells;
 use verilog_text::{Module, laws, print_module, spelling_laws};
 
-/// A list of a copy of this name alone.
+/// A one-element list with a copy of the name.
 pub fn alone(alloc: Global, name: &Name) -> Result<Vec<Name>, NoMemory>
     ensures one { IfOk result (λ names. names.items ≡ name.now ∷ []) }
 {

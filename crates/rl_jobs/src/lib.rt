@@ -1,7 +1,7 @@
 //! What commands do with the texts of their files: each job takes texts and gives a text, or the fault for which it is
 //! refused. Nothing is read or written here.
 //!
-//! `NoMemory` is answered where memory ran out.
+//! `NoMemory` is answered if memory ran out.
 #![tactic(auto)]
 
 pub mod compile;

@@ -3,7 +3,7 @@
 //! The operators are those of Smith, *Space-Time Algebra* (ISCA 2018), and the reading of a time as the rise of a
 //! wire is that of Madhavan, Sherwood and Strukov, *Race Logic* (ISCA 2014).
 //!
-//! `NoMemory` is answered where memory ran out.
+//! `NoMemory` is answered if memory ran out.
 #![tactic(auto)]
 
 mod text;

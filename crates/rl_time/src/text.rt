@@ -62,7 +62,7 @@ fn read_number(text: &[u8]) -> Option<u64>
     }
 }
 
-/// Whether neither a plus nor a zero before another byte stands first.
+/// Whether the text starts with neither `+` nor a leading zero.
 fn is_plain(text: &[u8]) -> bool
     ensures plain { OnTrue result ((slice_index text.now 0 ≢ 43)
         × (slice_index text.now 0 ≡ 48 → length text.now ≡ 1)) }

@@ -6,7 +6,7 @@ ghost use Rattle.spike_eval.specs.Causal.{IsCausal, IsInvariant, AreEqualOnNumbe
 ghost use Rattle.spike_eval.specs.Outputs.{output_function};
 
 /// Every output of every network is causal: up to any cycle, it rests on what the inputs do up to
-/// that cycle alone. The law needs none of the rules of networks.
+/// that cycle only. The law needs none of the rules of networks.
 pub fn outputs_are_causal()
     ensures { (n : Net) (k : ℕ) → IsCausal (output_function n k) }
 {}

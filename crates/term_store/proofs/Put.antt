@@ -36,7 +36,7 @@ same_trees ns ms (t ∷ ts) p all =
     let rest : trees_at ms ts ≡ trees_at ns ts = same_trees ns ms ts p (λ k d h. all (suc k) d (omega arith)) in
     cc
 
--- one more node, behind what its operands left
+-- one more node, after what its operands left
 pub put_step : (ns l ms : List Node) (n : Node) (t : Tree) (r : Term) → IsPrefix ns l → IsNodes l → IsNodeOver (length l) n → length l + cost l n ≤ 262144
     → ms ≡ with_node l n → r.0 < length ms → node_at ms r.0 ≡ n → node_tree (trees l) n ≡ t → plant_one ns t ≡ with_node l n → IsPlanted ns ms t r
 put_step ns l ms n t r pre s over room e within at shape planted =

@@ -17,7 +17,7 @@ is_operator (Max a b) = true
 is_operator (Lt a b) = true
 is_operator (Inc a c) = true
 
--- the place becomes a let: it is reached, and an operator stands there
+-- the place becomes a let: it is reached, and an operator is there
 abbrev pub becomes_let : List Node → (ℕ → Bool) → ℕ → Bool
 becomes_let nodes reached place = reached place && is_operator (node_at nodes place)
 

@@ -26,7 +26,7 @@ same_node a b = false
 abbrev pub node_at : List Node → ℕ → Node
 node_at nodes place = slice_index_or nodes place Never
 
--- the node stands in the list
+-- the node is in the list
 abbrev pub holds : List Node → Node → Bool
 holds nodes n = list_any (same_node n) nodes
 
@@ -38,7 +38,7 @@ place_of nodes n = position_or_len (same_node n) nodes
 abbrev pub with_node : List Node → Node → List Node
 with_node nodes n = if holds nodes n then nodes else nodes ++ n ∷ []
 
--- the node may stand behind m others: its operands are among them
+-- the node may be after m others: its operands are among them
 abbrev pub IsNodeOver : ℕ → Node → Type 0
 IsNodeOver m (Input i) = i < 64
 IsNodeOver m Never = Unit {0}

@@ -16,7 +16,7 @@ abbrev pub places : ℕ → List ℕ
 places zero = []
 places (suc n) = places n ++ n ∷ []
 
--- a mark for each place, which tells whether the roots reach it
+-- a mark for each place: whether the roots reach it
 abbrev pub reach_marks : List Node → List Term → List Bool
 reach_marks nodes roots = map (is_reached nodes roots) (places (length nodes))
 

@@ -15,7 +15,7 @@ use Rattle.term_store.specs.Trees.{tree, trees_at, plant_one, plant, IsPrefix}
 abbrev pub cost : List Node → Node → ℕ
 cost nodes n = if holds nodes n then 0 else 1
 
--- the inputs of a formula are held, its delays are within bounds, and it names the first k lets alone
+-- the inputs of a formula are held, its delays are within bounds, and it names only the first k lets
 abbrev pub IsReady : List Node → ℕ → Formula → Type 0
 IsReady nodes k formula.Never = Unit {0}
 IsReady nodes k (formula.Input i) = (i < 64) × (holds nodes (node.Input i) ≡ true)
@@ -52,7 +52,7 @@ pub record TakesRoomBesideNever (old new : Contents) (k : ℕ) : Type 0 where
   pub places : length new.nodes + cost new.nodes node.Never ≤ length old.nodes + cost old.nodes node.Never + k
   pub memory : old.spare + cost new.nodes node.Never ≤ new.spare + cost old.nodes node.Never + k
 
--- a tree was planted, and stands at this place
+-- a tree was planted, and is at this place
 pub record IsPlanted (old nodes : List Node) (t : Tree) (at : Term) : Type 0 where
   pub is_nodes : IsNodes nodes
   pub grown : IsPrefix old nodes
@@ -60,7 +60,7 @@ pub record IsPlanted (old nodes : List Node) (t : Tree) (at : Term) : Type 0 whe
   pub within : at.0 < length nodes
   pub tree_is : tree nodes at.0 ≡ t
 
--- two trees were planted, from left to right, and stand at these places
+-- two trees were planted, from left to right, and are at these places
 pub record IsPairPlanted (old nodes : List Node) (a b : Tree) (first second : Term) : Type 0 where
   pub is_nodes : IsNodes nodes
   pub grown : IsPrefix old nodes
@@ -70,7 +70,7 @@ pub record IsPairPlanted (old nodes : List Node) (a b : Tree) (first second : Te
   pub first_is : tree nodes first.0 ≡ a
   pub second_is : tree nodes second.0 ≡ b
 
--- trees were planted in order, and stand at these places
+-- trees were planted in order, and are at these places
 pub record ArePlanted (old nodes : List Node) (trees : List Tree) (at : List Term) : Type 0 where
   pub is_nodes : IsNodes nodes
   pub grown : IsPrefix old nodes

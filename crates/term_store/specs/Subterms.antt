@@ -26,7 +26,7 @@ same_tree (Lt a b) (Lt c d) = same_tree a c && same_tree b d
 same_tree (Inc a m) (Inc b n) = same_tree a b && nat_eq m n
 same_tree s t = false
 
--- the tree stands in the list
+-- the tree is in the list
 abbrev pub is_among : Tree → List Tree → Bool
 is_among t trees = list_any (same_tree t) trees
 

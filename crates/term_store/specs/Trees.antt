@@ -1,4 +1,4 @@
--- The terms that stand in a store, written out, and what it holds after a term came.
+-- The terms that a store holds, written out, and what it holds after a term was planted.
 use Rattle.std.specs.Prelude.{◌≡◌, ℕ, ◌<◌, List, [], ◌∷◌, ◌++◌, fold, map, length}
 use Rattle.term_store.specs.declared.node.Term.{Term}
 use Rattle.term_store.specs.declared.node.Node.{Node}
@@ -71,7 +71,7 @@ plant_one nodes (Inc a c) = with_root (plant_one nodes a) (Inc a c)
 abbrev pub plant : List Node → List Tree → List Node
 plant nodes trees = fold plant_one nodes trees
 
--- the tree stands at a place
+-- the tree is at a place
 abbrev pub IsHeld : List Node → Tree → Type 0
 IsHeld nodes t = (place : ℕ) × (place < length nodes) × (tree nodes place ≡ t)
 

@@ -51,7 +51,7 @@ impl Store {
     }
 }
 
-/// The let of each marked operator, in order, and for each place how many lets stand before its.
+/// The let of each marked operator, in order, and for each place how many lets are before its own.
 fn write_lets(
     alloc: Global,
     store: &Store,

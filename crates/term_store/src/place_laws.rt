@@ -27,7 +27,7 @@ pub fn terms_follow_nodes()
         tree nodes place ≡ tree_by_places nodes (node_at nodes place) }
 {}
 
-/// Planting a term that stands in a store changes nothing.
+/// Planting a term that a store holds changes nothing.
 pub fn planted_terms_stay()
     ensures { (nodes : List Node) (t : Tree) (place : ℕ) → IsNodes nodes → place < length nodes → tree nodes place ≡ t →
         plant_one nodes t ≡ nodes }

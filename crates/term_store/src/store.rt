@@ -25,7 +25,7 @@ impl From<NoMemory> for StoreError {
     }
 }
 
-/// Distinct nodes, in the order in which they came. The operands of each stand before it.
+/// Distinct nodes, in the order in which they came. The operands of each are before it.
 #[derive(Drop)]
 pub struct Store {
     nodes: IndexSet<Node>,
@@ -90,7 +90,7 @@ impl Store {
     }
 
     /// The place of a node, which goes last where it isn't held. A node that is held is always
-    /// taken. For another, `Full` comes exactly where the store holds 262,144 nodes, and `NoMemory`
+    /// taken. For another, `Full` is answered exactly if the store holds 262,144 nodes, and `NoMemory`
     /// only where it holds fewer and no room was left. Its operands are in the store.
     pub fn intern(&mut self, node: Node) -> Result<Term, StoreError>
         requires over { IsNodeOver (length self.old.nodes) node }

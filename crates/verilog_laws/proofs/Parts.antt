@@ -29,7 +29,7 @@ HasParts Declarations x = HasPorts x
 HasParts Actions x = HasPorts x
 HasParts Finished x = HasPorts x × (is_unfinished x ≡ false)
 
--- behind the header
+-- after the header
 abbrev IsBehind : Stage → Type 0
 IsBehind Start = ⊥
 IsBehind Declarations = Unit {0}

@@ -45,7 +45,7 @@ not_at x [] k y h e = absurd cc
 not_at x (z ∷ ys) zero y h e = let same : z ≡ y = cc in subst (λ v. bytes_eq x v ≡ false) same (or_parts (bytes_eq x z) (list_any (bytes_eq x) ys) h).0
 not_at x (z ∷ ys) (suc k) y h e = not_at x ys k y (or_parts (bytes_eq x z) (list_any (bytes_eq x) ys) h).1 e
 
--- of distinct names those behind stand nowhere before
+-- of distinct names those after stand nowhere before
 apart : (xs ys : List (List ℕ)) (k : ℕ) (y : List ℕ) → all_distinct (xs ++ ys) ≡ true → slice_get ys k ≡ Some y → list_any (bytes_eq y) xs ≡ false
 apart [] ys k y d e = refl
 apart (x ∷ xs) ys k y d e =

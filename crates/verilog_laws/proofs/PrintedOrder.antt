@@ -15,7 +15,7 @@ use Rattle.verilog_laws.proofs.PrintedNames.{is_register, IsPrintable, register_
 use Rattle.verilog_laws.proofs.PrintedExpressions.{is_expression}
 use Rattle.verilog_laws.proofs.PrintedStatements.{Follow}
 
--- the statements of a module, one list behind another
+-- the statements of a module, one list after another
 abbrev pub actions : Circuit → List Form
 actions m = map (printed_assign m) m.assigns ++ (map (printed_always m) m.regs ++ (End ∷ []))
 

@@ -53,7 +53,7 @@ reads_more k bytes rest ws f r =
       words = ap (with_word k bytes) r.words;
     }
 
--- ---- names, numbers and bits, with something behind them that doesn't go on with them
+-- ---- names, numbers and bits, with something after them that doesn't go on with them
 
 abbrev pub halts : (ℕ → Bool) → List ℕ → Bool
 halts p [] = true
@@ -101,7 +101,7 @@ no_bits c [] h = refl
 no_bits c (b ∷ []) h = refl
 no_bits c (b ∷ d ∷ rest) h = rw h refl
 
--- the digits at the front, with this behind them
+-- the digits at the front, with this after them
 digits_are : (bytes rest : List ℕ) → list_all is_digit bytes ≡ true → halts is_digit rest ≡ true → number_front (bytes ++ rest) ≡ digits_front (length bytes + 1) (bit_part_len rest)
 digits_are bytes rest h s =
     let len = run is_digit bytes rest h s in

@@ -13,7 +13,7 @@ abbrev pub Follow : Stage → List Form → Type 0
 Follow stage [] = stage ≡ Finished
 Follow stage (x ∷ xs) = IsFormed x × (allows stage x ≡ true) × Follow (stage_after x) xs
 
--- each breaks no rule behind those before it, and all together are `last`
+-- each breaks no rule after those before it, and all together are `last`
 abbrev pub AllKeep : SoFar → List Form → SoFar → Type 0
 AllKeep before [] last = before ≡ last
 AllKeep before (x ∷ xs) last = (first_rule before x ≡ None) × AllKeep (after before x) xs last

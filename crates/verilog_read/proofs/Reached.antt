@@ -95,7 +95,7 @@ abbrev pub Judged : List Statement → source.Draft → Option Fault → Stage �
 Judged before d None k = (x : SoFar) × AllStand nothing_yet before x × IsDraft d x × IsFresh k x
 Judged before d (Some f) k = FirstBroken nothing_yet before f.rule f.line
 
--- the words begin with statements, which are judged, and then comes the rest
+-- the words begin with statements, which are judged, and then there is the rest
 pub record Reading (ls : List Lexeme) (d : source.Draft) (b : Option Fault) (k : Stage) (rest : List Lexeme) : Type 0 where
   pub before : List Statement
   pub leads : Leads Start ls before k rest

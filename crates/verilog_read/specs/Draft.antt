@@ -58,7 +58,7 @@ Judges old f new (Ok u) = (x : SoFar) → IsDraft old x → (first_rule x f ≡ 
 Judges old f new (Err (Broken r)) = (x : SoFar) → IsDraft old x → first_rule x f ≡ Some r
 Judges old f new (Err step.NoMemory) = Unit {0}
 
--- a header is the first statement; any other stands behind some
+-- a header is the first statement; any other is after some
 abbrev pub IsReady : source.Draft → Form → Type 0
 IsReady d (Header n ports) = IsDraft d nothing_yet
 IsReady d _ = IsOfSome d

@@ -129,7 +129,7 @@ abbrev pub names_reg_by : (List ℕ → Option Meaning) → Next → Bool
 names_reg_by find (Whole e) = true
 names_reg_by find (Shifted r k e) = is_reg (find r)
 
--- the range of a register is of one bit alone
+-- the range of a register has only one bit
 abbrev pub narrow : Option (List ℕ) → Bool
 narrow None = false
 narrow (Some digits) = capped digits == 0

@@ -27,7 +27,7 @@ error_of rule.Order n = error.Order n
 error_of rule.Width n = error.Width n
 error_of rule.Limit n = error.Limit n
 
--- the rule and the line that an error names, want of memory apart
+-- the rule and the line that an error names, unless memory ran out
 abbrev pub Names : VerilogError → (Rule → ℕ → Type 0) → Type 0
 Names (error.Syntax n) P = P rule.Syntax n
 Names (error.Name n) P = P rule.Name n

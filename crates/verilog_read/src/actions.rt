@@ -81,7 +81,7 @@ fn push_assign(
     Ok(())
 }
 
-/// Judges an assign behind the statements before it, and keeps it where it breaks no rule.
+/// Checks an assign against the statements before it, and keeps it if it breaks no rule.
 pub fn read_assign(
     alloc: Global,
     draft: &mut Draft<'_>,

@@ -166,7 +166,7 @@ pub fn read_wire<'a>(alloc: Global, draft: &mut Draft<'a>, name: &'a [u8]) -> Re
     Ok(())
 }
 
-/// Whether a range is of one bit alone.
+/// Whether a range has only one bit.
 fn is_narrow(last: Option<&[u8]>) -> bool
     ensures { result ≡ narrow (range last.entry) }
 {

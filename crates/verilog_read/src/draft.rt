@@ -5,7 +5,7 @@ use crate::scope::Scope;
 use rl_text::Name;
 use verilog_text::{Assign, Reg, Rule};
 
-/// Why a statement does not stand.
+/// Why a statement was rejected.
 #[derive(Clone, Copy, Debug, PartialEq, Eq)]
 pub enum StepError {
     Broken(Rule),

@@ -1,7 +1,7 @@
 ghost use Rattle.std.specs.Prelude.{◌≡◌};
 
 /// Why a text spells no module. Each holds the number of a line, from 1. `Syntax`: a bad byte, or the first place at
-/// which no statement stands that may. The others are of the first statement that breaks a rule. `Name`: a name may not
+/// which no permitted statement begins. The others are of the first statement that breaks a rule. `Name`: a name may not
 /// be declared there, or isn't declared, or is of another kind. `Order`: a wire is used before its assign, a target is
 /// given twice, or something has no declaration, assign or always statement at the end. `Width`: a register's width
 /// isn't kept. `Limit`: too many, or no, inputs or outputs, or more than 65,536 wires or register bits.

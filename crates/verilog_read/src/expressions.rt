@@ -1,4 +1,4 @@
-//! What an expression, as it is written, comes to.
+//! Measures of an expression as it is written.
 ghost use Rattle.std.specs.Prelude.{◌≡◌, false, min, slice_get, slice_index_or, IfOk};
 ghost use Rattle.verilog_text.specs.Judging.{number_of};
 ghost use Rattle.circuit.specs.View.{logic};
@@ -22,7 +22,7 @@ pub fn number(digits: &[u8]) -> u32
     n
 }
 
-/// Whether each name is declared, and of the kind that stands there.
+/// Whether each name is declared, and of the kind that is wanted there.
 pub fn knows(written: &Written<'_>, scope: &Scope<'_>) -> bool
     ensures { result ≡ knows_by (find scope.now) (expression written.now) }
 {

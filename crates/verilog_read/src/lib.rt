@@ -1,6 +1,6 @@
 //! Reading modules: which module a text of a small part of Verilog spells, or which rule it breaks first.
 //!
-//! `NoMemory` is answered where memory ran out.
+//! `NoMemory` is answered if memory ran out.
 #![tactic(auto)]
 
 mod actions;

@@ -168,7 +168,7 @@ fn is_few(count: usize) -> bool
     1 <= count && count <= 64
 }
 
-/// Whether there are 1 to 64 inputs and 1 to 64 others behind the clock and the reset.
+/// Whether there are 1 to 64 inputs and 1 to 64 others after the clock and the reset.
 pub fn are_few(ports: &[&[u8]]) -> bool
     ensures { result ≡ are_few (map (λ p. p.now) ports.now) }
 {

@@ -155,7 +155,7 @@ fn ports_are_declared_in_their_order(rt: HostRuntime) -> Result<(), Fail> {
     Ok(())
 }
 
-/// A header of so many inputs and outputs, whose names have so many bytes behind `in_p` and `out_p`.
+/// A header of so many inputs and outputs, whose names have so many bytes after `in_p` and `out_p`.
 fn header(alloc: Global, inputs: u32, outputs: u32, bytes: u32) -> Result<Vec<u8>, Fail> {
     let mut text = b"module race(clk, rst".to_vec(alloc)?;
     let mut back = Vec::new(alloc);

@@ -12,7 +12,7 @@ use Rattle.verilog_syntax.specs.declared.written.Written.{Written}
 use Rattle.rl_text.specs.declared.words.Lexeme as source
 use denote.Bor.{Bor}
 
--- what an expression and the words behind it are
+-- what an expression and the words after it are
 abbrev pub seen : Written × Bor (List source.Lexeme) → Expression × List Lexeme
 seen x = (expression x.0, lexemes x.1.now)
 

@@ -15,7 +15,7 @@ use Rattle.verilog_syntax.proofs.Chains.{lacks, has}
 abbrev pub with_front : List (List ℕ) → Read (List (List ℕ)) → Read (List (List ℕ))
 with_front front read = read >>= λ x. Some (front ++ x.0, x.1)
 
--- what a name, or names, and the words behind them are
+-- what a name, or names, and the words after them are
 abbrev seen_name : Bor (List ℕ) × Bor (List source.Lexeme) → List ℕ × List Lexeme
 seen_name x = (x.0.now, lexemes x.1.now)
 

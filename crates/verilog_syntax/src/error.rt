@@ -2,7 +2,7 @@ ghost use Rattle.std.specs.Prelude.{◌≡◌};
 
 use std::alloc::{AllocError, AllocFailed};
 
-/// Why words are no statements. `At` holds the line, from 1, of the first place at which none stands that may.
+/// Why words are no statements. `At` holds the line, from 1, of the first place at which no permitted statement begins.
 #[derive(Clone, Copy, Debug, PartialEq, Eq)]
 pub enum SyntaxError {
     At(u32),

@@ -129,7 +129,7 @@ fn assign<'t, 'a>(alloc: Global, ws: &'t [Lexeme<'a>]) -> Found<'t, 'a, Form<'a>
     Ok((Form::Assign(target, body), rest))
 }
 
-/// The words behind `@(posedge clk)`.
+/// The words after `@(posedge clk)`.
 #[tactic(auto, unfolding(verilog_text::specs::Reading::after_edge))]
 fn after_edge<'t, 'a>(ws: &'t [Lexeme<'a>]) -> Result<&'t [Lexeme<'a>], ReadError>
     ensures { Gives (λ x. lexemes x.now) result (after_edge (lexemes ws.now)) }
@@ -141,7 +141,7 @@ fn after_edge<'t, 'a>(ws: &'t [Lexeme<'a>]) -> Result<&'t [Lexeme<'a>], ReadErro
     after_sign(rest, b")")
 }
 
-/// The words behind `if (rst)`.
+/// The words after `if (rst)`.
 #[tactic(auto, unfolding(verilog_text::specs::Reading::after_reset))]
 fn after_reset<'t, 'a>(ws: &'t [Lexeme<'a>]) -> Result<&'t [Lexeme<'a>], ReadError>
     ensures { Gives (λ x. lexemes x.now) result (after_reset (lexemes ws.now)) }
@@ -234,7 +234,7 @@ fn by_word<'t, 'a>(alloc: Global, word: &[u8], ws: &'t [Lexeme<'a>]) -> Found<'t
     }
 }
 
-/// The statement at the front, and the words behind it.
+/// The statement at the front, and the words after it.
 #[tactic(auto, unfolding(verilog_text::specs::Reading::form_at))]
 pub fn form<'t, 'a>(alloc: Global, ws: &'t [Lexeme<'a>]) -> Found<'t, 'a, Form<'a>>
     ensures { Gives (λ x. (form x.0, lexemes x.1.now)) result (form_at (lexemes ws.now)) }

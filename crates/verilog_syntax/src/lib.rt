@@ -1,6 +1,6 @@
 //! Statements of a small part of Verilog: which statement opens the words of a text, or where none does.
 //!
-//! `NoMemory` is answered where memory ran out.
+//! `NoMemory` is answered if memory ran out.
 #![tactic(auto)]
 
 mod error;

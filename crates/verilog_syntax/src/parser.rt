@@ -64,7 +64,7 @@ impl Stage {
 
 type Found<'t, 'a, E> = Result<(Statement<'a>, &'t [Lexeme<'a>]), E>;
 
-/// The statement at the front, one that the stage allows, and the words behind it.
+/// The statement at the front, one that the stage allows, and the words after it.
 #[tactic(auto, unfolding(verilog_text::specs::Reading::statement_at))]
 fn read<'t, 'a>(alloc: Global, ws: &'t [Lexeme<'a>], current: Stage) -> Found<'t, 'a, ReadError>
     ensures { Gives (λ x. (statement x.0, lexemes x.1.now)) result (statement_at (stage current) (lexemes ws.now)) }

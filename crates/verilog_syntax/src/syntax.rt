@@ -13,7 +13,7 @@ use std::alloc::Global;
 
 type Found<'t, 'a> = Result<(Written<'a>, &'t [Lexeme<'a>]), ReadError>;
 
-/// `[k]` behind a name.
+/// `[k]` after a name.
 #[tactic(auto, unfolding(verilog_text::specs::Reading::bit_at))]
 fn bit<'t, 'a>(text: &'a [u8], ws: &'t [Lexeme<'a>]) -> Found<'t, 'a>
     ensures { Gives (λ x. (expression x.0, lexemes x.1.now)) result (bit_at text.now (lexemes ws.now)) }
@@ -48,7 +48,7 @@ fn constant<'t, 'a>(text: &[u8], ws: &'t [Lexeme<'a>]) -> Found<'t, 'a>
     }
 }
 
-/// What `&` joins, with at most `depth` of `~` and `(` one inside another.
+/// What `&` joins, with at most `depth` nested `~` and `(`.
 #[cycle(expr)]
 #[tactic(auto, unfolding(verilog_text::specs::Reading::unary))]
 fn unary<'t, 'a>(alloc: Global, ws: &'t [Lexeme<'a>], depth: u32) -> Found<'t, 'a>
@@ -133,7 +133,7 @@ fn sum<'t, 'a>(alloc: Global, ws: &'t [Lexeme<'a>], depth: u32) -> Found<'t, 'a>
     }
 }
 
-/// An expression, of at most 64 of `~` and `(` one inside another.
+/// An expression, of at most 64 nested `~` and `(`.
 #[tactic(auto, unfolding(verilog_text::specs::Reading::expression_at))]
 pub fn expression<'t, 'a>(alloc: Global, ws: &'t [Lexeme<'a>]) -> Found<'t, 'a>
     ensures { Gives (λ x. (expression x.0, lexemes x.1.now)) result (expression_at (lexemes ws.now)) }

@@ -78,7 +78,7 @@ fn statements_are_found(rt: HostRuntime) -> Result<(), Fail> {
     Ok(())
 }
 
-// An assign of so many pieces before `a`, and so many behind it.
+// An assign of so many pieces before `a`, and so many after it.
 fn repeated(alloc: Global, count: u32, before: &[u8], behind: &[u8]) -> Result<Vec<u8>, Fail> {
     let mut text = b"module race(clk);\nassign y = ".to_vec(alloc)?;
     for _ in 0..count {

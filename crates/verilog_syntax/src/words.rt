@@ -7,7 +7,7 @@ ghost use Rattle.verilog_syntax.specs.Reads.{lexemes, Gives};
 use crate::error::ReadError;
 use rl_text::{Kind, Lexeme};
 
-/// The words behind this sign, where it stands at the front.
+/// The words after this sign, if it is at the front.
 #[tactic(auto, unfolding(verilog_text::specs::Reading::after, verilog_text::specs::Reading::begins))]
 pub fn behind_sign<'t, 'a>(ws: &'t [Lexeme<'a>], text: &[u8]) -> Option<&'t [Lexeme<'a>]>
     ensures { MatchOption result (after is_symbol text.now (lexemes ws.now) ≡ None) (λ r. after is_symbol text.now (lexemes ws.now) ≡ Some (lexemes r.now)) }
@@ -24,7 +24,7 @@ pub fn behind_sign<'t, 'a>(ws: &'t [Lexeme<'a>], text: &[u8]) -> Option<&'t [Lex
     }
 }
 
-/// The words behind this sign, where it stands at the front; else `Syntax`.
+/// The words after this sign, if it is at the front; else `Syntax`.
 #[tactic(auto, unfolding(verilog_text::specs::Reading::after, verilog_text::specs::Reading::begins))]
 pub fn after_sign<'t, 'a>(ws: &'t [Lexeme<'a>], text: &[u8]) -> Result<&'t [Lexeme<'a>], ReadError>
     ensures { Gives (λ x. lexemes x.now) result (after_sign text.now (lexemes ws.now)) }
@@ -35,7 +35,7 @@ pub fn after_sign<'t, 'a>(ws: &'t [Lexeme<'a>], text: &[u8]) -> Result<&'t [Lexe
     }
 }
 
-/// The words behind this name, where it stands at the front; else `Syntax`.
+/// The words after this name, if it is at the front; else `Syntax`.
 #[tactic(auto, unfolding(verilog_text::specs::Reading::after, verilog_text::specs::Reading::begins))]
 pub fn after_name<'t, 'a>(ws: &'t [Lexeme<'a>], text: &[u8]) -> Result<&'t [Lexeme<'a>], ReadError>
     ensures { Gives (λ x. lexemes x.now) result (after_name text.now (lexemes ws.now)) }
@@ -52,7 +52,7 @@ pub fn after_name<'t, 'a>(ws: &'t [Lexeme<'a>], text: &[u8]) -> Result<&'t [Lexe
     }
 }
 
-/// The words behind this number, where it stands at the front; else `Syntax`.
+/// The words after this number, if it is at the front; else `Syntax`.
 #[tactic(auto, unfolding(verilog_text::specs::Reading::after, verilog_text::specs::Reading::begins))]
 pub fn after_number<'t, 'a>(
     ws: &'t [Lexeme<'a>],
@@ -72,7 +72,7 @@ pub fn after_number<'t, 'a>(
     }
 }
 
-/// The name at the front, and the words behind it; else `Syntax`.
+/// The name at the front, and the words after it; else `Syntax`.
 #[tactic(auto, unfolding(verilog_text::specs::Reading::bytes_at))]
 pub fn name<'t, 'a>(ws: &'t [Lexeme<'a>]) -> Result<(&'a [u8], &'t [Lexeme<'a>]), ReadError>
     ensures { Gives (λ x. (x.0.now, lexemes x.1.now)) result (name_at (lexemes ws.now)) }
@@ -89,7 +89,7 @@ pub fn name<'t, 'a>(ws: &'t [Lexeme<'a>]) -> Result<(&'a [u8], &'t [Lexeme<'a>])
     }
 }
 
-/// The bits at the front, such as `1'b0`, and the words behind them; else `Syntax`.
+/// The bits at the front, such as `1'b0`, and the words after them; else `Syntax`.
 #[tactic(auto, unfolding(verilog_text::specs::Reading::bytes_at))]
 pub fn bits<'t, 'a>(ws: &'t [Lexeme<'a>]) -> Result<(&'a [u8], &'t [Lexeme<'a>]), ReadError>
     ensures { Gives (λ x. (x.0.now, lexemes x.1.now)) result (bytes_at is_bits (lexemes ws.now)) }

@@ -125,7 +125,7 @@ sum_some d part sound ls x e =
     let c = chain_some (codes "|") Or (product part) (AnyProduct d) (IsSum d) (λ a b. refl) (product_some d part sound) (λ n a b q p. more_terms d n p.0 a b q p.1) 63 a.0.0 ls a.0.1 x s.words (one_term d s.is.0 a.0.0 s.is.1) a.2 in
     record { words = c.1.words; is = (c.0, c.1.is) }
 
--- behind one word
+-- after one word
 begun : (P : Expression → Type 0) (w : Word) (e : Expression) (l : Lexeme) (ls : List Lexeme) (x : Expression × List Lexeme) → l.word ≡ w → spelled e ≡ w ∷ [] → P e → Some (e, ls) ≡ Some x → IsRead P (l ∷ ls) x
 begun P w e l ls x is spell p h =
     let made : Expression × List Lexeme = (e, ls) in
@@ -239,7 +239,7 @@ chain_ends t join part (suc n) a ls h = rw h refl
 chain_more : (t : List ℕ) (join : Expression → Expression → Expression) (part : List Lexeme → Read Expression) (n : ℕ) (a b : Expression) (l : Lexeme) (ls rest : List Lexeme) → l.word ≡ sign t → part ls ≡ Some (b, rest) → chain t join part (suc n) a (l ∷ ls) ≡ chain t join part n (join a b) rest
 chain_more t join part n a b l ls rest is h = rw (begins-word is_symbol kind.Symbol t l ls refl is, h) refl
 
--- one more part behind the sign
+-- one more part after the sign
 joins : (t : List ℕ) (join : Expression → Expression → Expression) (part : List Lexeme → Read Expression) (k : ℕ) (a b : Expression) (mid behind rest : List Lexeme) → Begins mid (sign t ∷ []) behind → part behind ≡ Some (b, rest) → chain t join part (suc k) a mid ≡ chain t join part k (join a b) rest
 joins t join part k a b [] behind rest y h = absurd y
 joins t join part k a b (l ∷ mid) behind rest y h = chain_more t join part k a b l mid rest y.0 (ap part y.1 ∙ h)

@@ -133,7 +133,7 @@ names_some ls x e =
 
 -- ---- statements
 
--- the words begin with this statement, and then comes the rest
+-- the words begin with this statement, and then there is the rest
 pub record IsForm (ls : List Lexeme) (f : Form) (rest : List Lexeme) : Type 0 where
   pub words : Begins ls (spelled_form f) rest
   pub formed : IsFormed f

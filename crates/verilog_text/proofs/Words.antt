@@ -29,7 +29,7 @@ and_true false b e = absurd cc
 
 -- ---- what the words begin with
 
--- the words begin with these, and then comes the rest
+-- the words begin with these, and then there is the rest
 abbrev pub Begins : List Lexeme → List Word → List Lexeme → Type 0
 Begins ls [] rest = ls ≡ rest
 Begins [] (w ∷ ws) rest = ⊥
@@ -45,7 +45,7 @@ split [] vs ls rest x = (ls, refl, x)
 split (u ∷ us) vs [] rest x = absurd x
 split (u ∷ us) vs (l ∷ ls) rest x = let m = split us vs ls rest x.1 in (m.0, (x.0, m.1), m.2)
 
--- the rest behind one word
+-- the rest after one word
 pub one : (w : Word) (ws : List Word) (ls rest : List Lexeme) → Begins ls (w ∷ ws) rest → (l : Lexeme) × (more : List Lexeme) × (ls ≡ l ∷ more) × (l.word ≡ w) × Begins more ws rest
 one w ws [] rest x = absurd x
 one w ws (l ∷ ls) rest x = (l, ls, refl, x.0, x.1)

@@ -147,7 +147,7 @@ abbrev pub terms : Expression → ℕ
 terms (Or a b) = suc (terms a)
 terms _ = 1
 
--- how many `~` and `(` stand one inside another, at most
+-- how many `~` and `(` are nested, at most
 abbrev pub nesting : Expression → ℕ
 nesting Low = 0
 nesting High = 0

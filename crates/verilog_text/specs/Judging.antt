@@ -80,7 +80,7 @@ is_output_port n = bytes_eq (take 4 n) (codes "out_") && is_port_name (drop 4 n)
 abbrev pub inputs_in : List (List ℕ) → ℕ
 inputs_in ports = prefix_len is_input_port ports
 
--- the ports behind the clock and the reset are inputs and then outputs
+-- the ports after the clock and the reset are inputs and then outputs
 abbrev pub are_ports : List (List ℕ) → Bool
 are_ports (clk ∷ rst ∷ ports) =
     bytes_eq clk (codes "clk") && bytes_eq rst (codes "rst") && list_all is_output_port (drop (inputs_in ports) ports)
@@ -90,7 +90,7 @@ are_ports _ = false
 abbrev pub is_few : ℕ → Bool
 is_few n = nat_le 1 n && nat_le n 64
 
--- so many of the ports behind the clock and the reset are inputs, and so many are the others
+-- that many of the ports after the clock and the reset are inputs, and so many are the others
 abbrev pub are_few : List (List ℕ) → Bool
 are_few ports = is_few (inputs_in (drop 2 ports)) && is_few (length (drop 2 ports) - inputs_in (drop 2 ports))
 
@@ -188,7 +188,7 @@ after x End = x
 abbrev pub is_misnamed : SoFar → List ℕ → Bool
 is_misnamed x n = nat_lt 40 (length n) || is_some (found n x.entries)
 
--- a port is not the next of the list, or stands behind a wire or a register
+-- a port is not the next of the list, or is after a wire or a register
 abbrev pub is_misplaced : SoFar → List ℕ → Bool
 is_misplaced x n = not (is_next n x.to_declare) || nat_lt 0 (length x.wires) || nat_lt 0 (length x.regs)
 
@@ -214,7 +214,7 @@ is_operand (Some (WireAt w)) = true
 is_operand (Some (RegAt r)) = true
 is_operand _ = false
 
--- each name of the expression is declared, and of the kind that stands there
+-- each name of the expression is declared, and of the kind that is wanted there
 abbrev pub knows : List Entry → Expression → Bool
 knows entries Low = true
 knows entries High = true
@@ -356,7 +356,7 @@ first_of name order width limit =
     if name then Some rule.Name else (if order then Some rule.Order else (if width then Some rule.Width
     else (if limit then Some rule.Limit else None)))
 
--- the first rule that a statement breaks behind these
+-- the first rule that a statement breaks after these
 abbrev pub first_rule : SoFar → Form → Option Rule
 first_rule x f = first_of (breaks_name x f) (breaks_order x f) (breaks_width x f) (breaks_limit x f)
 

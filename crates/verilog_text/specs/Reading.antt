@@ -7,7 +7,7 @@ use Rattle.rl_text.specs.Lexemes.{Lexeme}
 use Rattle.verilog_text.specs.Grammar.{Expression, Low, High, Name, Bit, Not, Group, And, Or, Next, Whole, Shifted, Form, Header, Input, Output, Wire, Reg, Assign, Always, End, is_plain}
 use Rattle.verilog_text.specs.Statements.{Statement, Stage, allows}
 
--- a value and the words behind it
+-- a value and the words after it
 abbrev pub Read : Type 0 → Type 0
 Read A = Option (A × List Lexeme)
 
@@ -39,7 +39,7 @@ unfoldable pub begins : (Kind → Bool) → List ℕ → List Lexeme → Bool
 begins is t [] = false
 begins is t (l ∷ ls) = is l.word.kind && bytes_eq l.word.bytes t
 
--- what stands behind that word
+-- what is after that word
 unfoldable pub after : (Kind → Bool) → List ℕ → List Lexeme → Option (List Lexeme)
 after is t ls = if begins is t ls then Some (drop 1 ls) else None
 
@@ -64,7 +64,7 @@ number_at (l ∷ ls) = if is_number l.word.kind && is_plain l.word.bytes then So
 
 -- ---- expressions
 
--- `[k]` behind a name
+-- `[k]` after a name
 unfoldable pub bit_at : List ℕ → List Lexeme → Read Expression
 bit_at t ls = do
   o ← after_sign (codes "[") ls
@@ -116,7 +116,7 @@ operation kind.Symbol t part ls =
     if bytes_eq t (codes "~") then negation part ls else (if bytes_eq t (codes "(") then group part ls else None)
 operation k t part ls = leaf k t ls
 
--- what `&` joins, with at most d of `~` and `(` one inside another
+-- what `&` joins, with at most d nested `~` and `(`
 unfoldable pub unary : ℕ → List Lexeme → Read Expression
 unary d [] = None
 unary zero (l ∷ ls) = leaf l.word.kind l.word.bytes ls
@@ -151,7 +151,7 @@ shifted_at ls = do
 unfoldable pub next_at : List Lexeme → Read Next
 next_at ls = if begins is_symbol (codes "{") ls then shifted_at ls else expression_at ls >>= (λ a. Some (Whole a.0, a.1))
 
--- names, each behind a comma
+-- names, each after a comma
 abbrev pub more_names : List Lexeme → Read (List (List ℕ))
 more_names [] = Some ([], [])
 more_names (c ∷ []) = if begins is_symbol (codes ",") (c ∷ []) then None else Some ([], c ∷ [])

@@ -10,7 +10,7 @@ use Rattle.circuit.specs.Circuit.{Circuit}
 use Rattle.verilog_text.specs.Statements.{Statement, AreStatements, FailsAt}
 use Rattle.verilog_text.specs.Judging.{SoFar, nothing_yet, after, first_rule, module_of}
 
--- each of the statements breaks no rule behind those before it, and all together are `last`
+-- each of the statements breaks no rule after those before it, and all together are `last`
 abbrev pub AllStand : SoFar → List Statement → SoFar → Type 0
 AllStand x [] last = x ≡ last
 AllStand x (s ∷ ss) last = (first_rule x s.form ≡ None) × AllStand (after x s.form) ss last
@@ -39,7 +39,7 @@ pub record HasBadByte (text : List ℕ) (line : ℕ) : Type 0 where
   pub bad : IsBad style.Verilog text place
   pub number : line ≡ line_behind (take place text)
 
--- the text has tokens, and at the first place where none of the statements stands that may, this is the line
+-- the text has tokens, and at the first place where no permitted statement begins, this is the line
 pub record LacksStatement (text : List ℕ) (line : ℕ) : Type 0 where
   pub tokens : List Token
   pub lexed : AreTokens style.Verilog text tokens

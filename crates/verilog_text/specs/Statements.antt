@@ -1,4 +1,4 @@
--- The statements that a text's words are, and the first place at which no statement stands.
+-- The statements that a text's words are, and the first place at which no statement begins.
 use Rattle.std.specs.Prelude.{◌≡◌, ◌≢◌, ℕ, Bool, true, false, List, [], ◌∷◌, ◌++◌, map}
 use Rattle.rl_text.specs.Lines.{Word}
 use Rattle.rl_text.specs.Lexemes.{Lexeme}
@@ -31,7 +31,7 @@ allows Actions (Always r z s e) = true
 allows Actions End = true
 allows _ _ = false
 
--- what may come behind a statement
+-- what may come after a statement
 abbrev pub stage_after : Form → Stage
 stage_after (Header n ports) = Declarations
 stage_after (Input n) = Declarations
@@ -42,7 +42,7 @@ stage_after (Assign n e) = Actions
 stage_after (Always r z s e) = Actions
 stage_after End = Finished
 
--- behind `endmodule` the text ends
+-- after `endmodule` the text ends
 abbrev pub MayPrecede : Form → List Lexeme → Type 0
 MayPrecede End rest = rest ≡ []
 MayPrecede _ rest = Unit {0}
@@ -50,7 +50,7 @@ MayPrecede _ rest = Unit {0}
 abbrev pub words_of : List Lexeme → List Word
 words_of lexemes = map (λ l. l.word) lexemes
 
--- the words begin with this statement, one that the stage allows, and then comes the rest
+-- the words begin with this statement, one that the stage allows, and then there is the rest
 pub record Opens (stage : Stage) (lexemes : List Lexeme) (s : Statement) (rest : List Lexeme) : Type 0 where
   pub first : Lexeme
   pub others : List Lexeme
@@ -61,7 +61,7 @@ pub record Opens (stage : Stage) (lexemes : List Lexeme) (s : Statement) (rest :
   pub line : s.line ≡ first.line
   pub whole : MayPrecede s.form rest
 
--- the words are these statements, one after another, and then comes the rest, at the last stage
+-- the words are these statements, one after another, and then there is the rest, at the last stage
 abbrev pub Leads : Stage → List Lexeme → List Statement → Stage → List Lexeme → Type 0
 Leads stage lexemes [] last rest = (stage ≡ last) × (lexemes ≡ rest)
 Leads stage lexemes (s ∷ ss) last rest =
@@ -76,7 +76,7 @@ abbrev pub first_line : ℕ → List Lexeme → ℕ
 first_line end [] = end
 first_line end (l ∷ lexemes) = l.line
 
--- behind some statements comes a place, on this line, at which none stands that may; `end` is the line of the text's end
+-- after some statements there is a place, on this line, at which no permitted statement begins; `end` is the line of the text's end
 pub record FailsAt (lexemes : List Lexeme) (end line : ℕ) : Type 0 where
   pub before : List Statement
   pub stage : Stage

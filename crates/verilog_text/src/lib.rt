@@ -1,7 +1,7 @@
 //! The text of modules, in a small part of Verilog: which text spells which module, which rule a text breaks, and the
 //! text that is printed for a module.
 //!
-//! `NoMemory` is answered where memory ran out.
+//! `NoMemory` is answered if memory ran out.
 #![tactic(auto)]
 
 mod print;

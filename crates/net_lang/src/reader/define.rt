@@ -29,7 +29,7 @@ fn stage_after(target: Target) -> Stage
     }
 }
 
-/// What is known of the name of a let, which comes after so many lets and has this span, or of an output.
+/// What is known of the name of a let, which is after that many lets and has this span, or of an output.
 fn known_as(target: Target, at: usize, span: u32) -> Known
     ensures { result ≡ known_as target at span }
 {

@@ -1,4 +1,4 @@
-//! What an expression, as it is written, comes to.
+//! Measures of an expression as it is written.
 ghost use Rattle.std.specs.Prelude.{◌≡◌, ◌≤◌, ◌+◌, ◌&&◌, min, max, IfOk};
 ghost use Rattle.rl_text.specs.Numbers.{number_of};
 ghost use Rattle.rl_text.specs.NameMap.{find};
@@ -66,7 +66,7 @@ fn of_delay(a: Measured, digits: &[u8]) -> Measured
     }
 }
 
-/// What an expression comes to.
+/// Measures of an expression.
 pub fn measure(written: &Written<'_>, scope: &Scope<'_>) -> Measured
     requires { IsSmall (find scope.now) }
     ensures known { result.known ≡ finds_all (find scope.now) (expression written.now) }

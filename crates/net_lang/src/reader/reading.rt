@@ -91,7 +91,7 @@ fn delay<'a>(
     Ok((Box::new(alloc, a)?, n))
 }
 
-/// Takes the expression at the front, of at most `depth` operators one inside another.
+/// Takes the expression at the front, of at most `depth` nested operators.
 #[cycle(expr)]
 #[tactic(auto, unfolding(crate::specs::Reading::expr_at))]
 pub fn expr<'a>(

@@ -18,7 +18,7 @@ pub struct Known {
 /// The names that are declared so far.
 pub type Scope<'a> = NameMap<'a, Known>;
 
-/// What an expression comes to: whether each of its names is an input or a let, how many of `min`, `max` and `lt` and
+/// Measures of an expression: whether each of its names is an input or a let, how many of `min`, `max` and `lt` and
 /// how many `inc` it has, each up to 20,000, and its span in cycles, up to 1,000,001.
 #[derive(Clone, Copy, Debug, PartialEq, Eq)]
 pub struct Measured {

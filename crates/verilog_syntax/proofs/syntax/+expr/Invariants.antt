@@ -21,7 +21,7 @@ decreases-group l = 5 * l.depth + 3
 abbrev pub decreases-operation : goal.decreases-operation
 decreases-operation l = 5 * l.depth + 4
 
--- what is read in all is what the parts so far and the words behind them come to
+-- what is read in all is what the parts so far and the words after them come to
 abbrev pub invariant-product-loop : goal.invariant-product-loop
 invariant-product-loop l =
     chain (codes "&") And (unary l.depth) (63 - l.counter) (expression l.all) (lexemes l.rest) ≡ product (unary l.depth) (lexemes l.ws)
