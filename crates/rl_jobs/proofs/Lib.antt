@@ -1,3 +1,5 @@
 pub mod Right
 pub mod Tabulated
 pub mod Judging
+pub mod OneText
+pub mod Lowering

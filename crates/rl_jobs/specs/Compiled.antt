@@ -1,8 +1,10 @@
 -- What it is to compile a source rightly.
 use Rattle.std.specs.Prelude.{◌≡◌, ◌⊎◌, ℕ, ◌<◌, ◌≤◌, List, [], map, length}
+use Rattle.std.specs.List.{All}
 use Rattle.rl_time.specs.declared.time.Time.{Time}
 use Rattle.term_store.specs.declared.node.Node.{Node}
 use Rattle.term_store.specs.declared.node.Term.{Term}
+use Rattle.term_store.specs.Nodes.{IsNodes}
 use Rattle.term_store.specs.Tree.{Tree}
 use Rattle.term_store.specs.Terms.{network_trees}
 use Rattle.term_store.specs.Trees.{plant, trees_at}
@@ -51,6 +53,8 @@ planted_source (OfTable t) = plant [] (table_terms t)
 -- the gates are those of the source's terms, which are at these roots of the store
 pub record AreSourceGates (s : Source) (g : Netlist) : Type 0 where
   pub roots : List Term
+  pub is_store : IsNodes (planted_source s)
+  pub within : All (λ r. r.0 < length (planted_source s)) roots
   pub roots_are : trees_at (planted_source s) roots ≡ terms_of s
   pub gates_are : g ≡ lowered (planted_source s) roots (inputs_of s) (outputs_of s)
 

@@ -7,7 +7,7 @@ use Rattle.rl_text.specs.Lines.{Word}
 use Rattle.rl_text.specs.First.{BeginsWith}
 use Rattle.net_lang.specs.declared.reader.rules.Rule.{Rule}
 use Rattle.net_lang.specs.Outcome as net
-use Rattle.net_model.specs.Rules.{names_of}
+use Rattle.net_model.specs.Rules.{IsNetwork, names_of}
 use Rattle.net_lang.specs.Spelling.{SpellsNetwork}
 use Rattle.net_model.specs.Value.{space_time_function}
 use Rattle.func_table.specs.declared.reader.rules.Rule.{Rule as TableRule}
@@ -97,9 +97,9 @@ abbrev pub IsSound : Source → Type 0
 IsSound (OfNetwork n) = Unit {0}
 IsSound (OfTable t) = AreSound t.rows
 
--- where the source is a table, it keeps the rules of tables
+-- the source keeps the rules of networks, or those of tables
 abbrev pub IsRuled : Source → Type 0
-IsRuled (OfNetwork n) = Unit {0}
+IsRuled (OfNetwork n) = IsNetwork n
 IsRuled (OfTable t) = IsTable t
 
 -- ---- jobs

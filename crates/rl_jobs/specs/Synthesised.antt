@@ -1,5 +1,5 @@
 -- The network of a table.
-use Rattle.std.specs.Prelude.{◌≡◌, ℕ, ◌+◌, List, [], ◌∷◌, length}
+use Rattle.std.specs.Prelude.{◌≡◌, ℕ, ◌<◌, ◌+◌, List, [], ◌∷◌, length}
 use Rattle.rl_time.specs.declared.time.Time.{Time}
 use Rattle.net_model.specs.Formula.{Net}
 use Rattle.net_lang.specs.Spelling.{SpellsNetwork}
@@ -9,6 +9,7 @@ use Rattle.func_table.specs.Function.{table_function}
 use Rattle.func_table.specs.Table.{Table}
 use Rattle.term_store.specs.declared.node.Term.{Term}
 use Rattle.term_store.specs.Extracted.{extracted}
+use Rattle.term_store.specs.Nodes.{IsNodes}
 use Rattle.term_store.specs.Subterms.{join_count, delay_count}
 use Rattle.term_store.specs.Trees.{plant, trees_at}
 use Rattle.minterm.specs.Minterms.{synthesised, table_terms}
@@ -19,6 +20,8 @@ use Rattle.rl_jobs.specs.Sources.{SpellsSoundTable, IsNoTable}
 -- the table, and at all times, of one for each input, the table's value.
 pub record IsSynthesised (t : Table) (n : Net) : Type 0 where
   pub root : Term
+  pub is_store : IsNodes (plant [] (table_terms t))
+  pub within : root.0 < length (plant [] (table_terms t))
   pub root_is : trees_at (plant [] (table_terms t)) (root ∷ []) ≡ synthesised t ∷ []
   pub network_is : n ≡ extracted (plant [] (table_terms t)) (root ∷ []) t.inputs (t.output ∷ [])
   pub one_let_for_each : length n.lets ≡ join_count (synthesised t ∷ []) + delay_count (synthesised t ∷ [])

@@ -1,25 +1,29 @@
 ghost use Rattle.std.specs.Prelude.{◌≡◌, ◌≤◌, ◌<◌, ◌∷◌, [], ℕ, length, IfOk, IfErr, OnOk, Err};
-ghost use Rattle.term_store.specs.Subterms.{join_count, register_bits};
+ghost use Rattle.std.specs.List.{All};
+ghost use Rattle.net_model.specs.Rules.{names_of};
+ghost use Rattle.term_store.specs.Ports.{ArePorts};
+ghost use Rattle.term_store.specs.Subterms.{AreNetworkTerms, join_count, register_bits};
+ghost use Rattle.term_store.specs.Trees.{trees_at};
 ghost use Rattle.gate_lower.specs.Rules as rules;
 ghost use Rattle.gate_lower.specs.Timing.{AreGatesOf};
 ghost use Rattle.gate_lower.specs.declared.lowering.LowerError.TheVariants.{TooManyBits};
 ghost use Rattle.circuit.specs.Depth.{IsShallow};
-ghost use Rattle.func_table.specs.Sound.{AreSound};
-ghost use Rattle.minterm.specs.Minterms.{synthesised};
-ghost use Rattle.rl_jobs.specs.declared.source.Source.TheVariants.{OfTable};
-ghost use Rattle.rl_jobs.specs.Sources.{IsSound, inputs_of, outputs_of, terms_of, FailsBy};
-ghost use Rattle.rl_jobs.specs.Compiled.{AreSourceGates, RealisesSource, IsCompiled, IsModuleText, NeedsManyBits, IsNotCompiled};
+ghost use Rattle.rl_jobs.specs.Sources.{IsSound, IsRuled, inputs_of, outputs_of, terms_of, FailsBy};
+ghost use Rattle.rl_jobs.specs.Compiled.{planted_source, AreSourceGates, RealisesSource, IsCompiled, IsModuleText, NeedsManyBits, IsNotCompiled};
 ghost use Rattle.rl_jobs.specs.declared.fault.Fault.TheVariants as fault;
 
 use crate::error::JobError;
 use crate::fault::Fault;
 use crate::source::Source;
-use func_table::{Name, Table};
-use gate_lower::{Gates, LowerError, emit, lower, lower_network};
-use minterm::{table_names_are_ports, the_term_has_the_tables_values};
+use gate_lower::{Gates, LowerError, emit, lower};
+use minterm::{table_names_are_ports, table_terms_are_few, the_term_has_the_tables_values};
+use net_model::Binding;
+use rl_text::Name;
 use rl_time::NoMemory;
 use std::alloc::Global;
-use term_store::{Store, terms_have_the_networks_values};
+use term_store::{
+    Store, Term, network_names_are_ports, network_terms_are_few, terms_have_the_networks_values,
+};
 use verilog_laws::printing_spells;
 use verilog_text::{Module, laws, print_module, spelling_laws};
 
@@ -32,29 +36,59 @@ pub fn alone(alloc: Global, name: &Name) -> Result<Vec<Name>, NoMemory>
     Ok(names)
 }
 
-/// The gates of a table: its term is planted in a store and lowered. No table needs more register
-/// bits than a module may have.
-fn lower_table(alloc: Global, t: &Table) -> Result<Gates, NoMemory>
-    requires sound { AreSound t.now.rows }
-    ensures gates { IfOk result (AreSourceGates (OfTable t.now)) }
-    ensures timed { IfOk result (AreGatesOf t.now.inputs (t.now.output ∷ []) (synthesised t.now ∷ [])) }
-    ensures wires { IfOk result (λ g. length g.gates ≡ join_count (synthesised t.now ∷ [])) }
-    ensures bits { IfOk result (λ g. rules.register_bits g ≡ register_bits (synthesised t.now ∷ [])) }
-    ensures few { OnOk result (register_bits (synthesised t.now ∷ []) ≤ 65536) }
+/// The names of bindings, in order.
+fn names(alloc: Global, bindings: &[Binding]) -> Result<Vec<Name>, NoMemory>
+    ensures names { IfOk result (λ names. names.items ≡ names_of bindings.now) }
 {
-    t.rules();
-    table_names_are_ports();
-    let mut store = Store::new(alloc)?;
-    let root = minterm::synth(alloc, t, &mut store)?;
-    let outputs = alone(alloc, t.output())?;
-    match lower(alloc, &store, &[root], t.inputs(), &outputs) {
-        Ok(gates) => Ok(gates),
-        Err(LowerError::TooManyBits(_)) => unreachable!(),
-        Err(LowerError::NoMemory) => Err(NoMemory),
+    let mut names = Vec::new(alloc);
+    for binding in bindings {
+        names.push(Name::new(alloc, binding.name().bytes())?)?;
     }
+    Ok(names)
+}
+
+/// A source's names and terms are such as can be lowered. No table needs more register bits than a module may have.
+fn sources_can_be_lowered()
+    ensures ports { (s : Source) → IsRuled s → ArePorts (inputs_of s) (outputs_of s) }
+    ensures terms { (s : Source) → IsRuled s → AreNetworkTerms (length (inputs_of s)) (terms_of s) }
+    ensures bits { (s : Source) (bits : ℕ) → IsRuled s → bits ≡ register_bits (terms_of s) → 65536 < bits → NeedsManyBits s (fault.TooManyBits bits) }
+{
+    network_names_are_ports();
+    network_terms_are_few();
+    table_names_are_ports();
+    table_terms_are_few();
 }
 
 impl Source {
+    /// The names of the outputs, in order.
+    fn output_names(&self, alloc: Global) -> Result<Vec<Name>, NoMemory>
+        ensures names { IfOk result (λ names. names.items ≡ outputs_of self.now) }
+    {
+        match self {
+            Source::OfNetwork(n) => names(alloc, n.outputs()),
+            Source::OfTable(t) => alone(alloc, t.output()),
+        }
+    }
+
+    /// Plants its terms in a store without nodes, and answers the places of those of its outputs.
+    fn plant(&self, alloc: Global, store: &mut Store) -> Result<Vec<Term>, NoMemory>
+        requires sound { IsSound self.now }
+        requires empty { store.old.nodes ≡ [] }
+        ensures nodes { OnOk result (store.new.nodes ≡ planted_source self.now) }
+        ensures within { IfOk result (λ roots. All (λ r. r.0 < length store.new.nodes) roots.items) }
+        ensures terms { IfOk result (λ roots. trees_at store.new.nodes roots.items ≡ terms_of self.now) }
+    {
+        match self {
+            Source::OfNetwork(n) => store.build(alloc, n),
+            Source::OfTable(t) => {
+                let root = minterm::synth(alloc, t, store)?;
+                let mut roots = Vec::new(alloc);
+                roots.push(root)?;
+                Ok(roots)
+            }
+        }
+    }
+
     /// The gates of its terms.
     fn gates(&self, alloc: Global) -> Result<Gates, LowerError>
         requires sound { IsSound self.now }
@@ -65,10 +99,13 @@ impl Source {
         ensures few { OnOk result (register_bits (terms_of self.now) ≤ 65536) }
         ensures too_many { (bits : ℕ) → result ≡ Err (TooManyBits bits) → NeedsManyBits self.now (fault.TooManyBits bits) }
     {
-        match self {
-            Source::OfNetwork(n) => lower_network(alloc, n),
-            Source::OfTable(t) => Ok(lower_table(alloc, t)?),
-        }
+        self.rules();
+        sources_can_be_lowered();
+        let mut store = Store::new(alloc)?;
+        let roots = self.plant(alloc, &mut store)?;
+        store.rules();
+        let outputs = self.output_names(alloc)?;
+        lower(alloc, &store, &roots, self.inputs(), &outputs)
     }
 
     /// The module of its gates.

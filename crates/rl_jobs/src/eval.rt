@@ -84,7 +84,7 @@ pub fn eval(alloc: Global, bytes: &[u8], times: &[Time]) -> Result<Vec<u8>, JobE
     ensures cause { IfErr result (FailsBy (IsNotValued times.now bytes.now)) }
 {
     let source = Source::read(alloc, 1, bytes)?;
-    let inputs = source.input_count();
+    let inputs = source.inputs().len();
     if times.len() != inputs {
         return Err(JobError::Refused(Fault::Inputs(inputs as u64)));
     }

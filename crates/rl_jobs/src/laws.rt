@@ -3,16 +3,17 @@
 ghost use Rattle.std.specs.Prelude.{◌≡◌, ℕ, List, length};
 ghost use Rattle.rl_time.specs.declared.time.Time.{Time};
 ghost use Rattle.net_lang.specs.Spelling.{SpellsNetwork};
-ghost use Rattle.rl_jobs.specs.Compiled.{HasFewBits, IsNotCompiled};
+ghost use Rattle.rl_jobs.specs.Compiled.{HasFewBits, IsModuleText, IsNotCompiled};
 ghost use Rattle.rl_jobs.specs.Readings.{IsReading};
 ghost use Rattle.rl_jobs.specs.Sources.{IsNoNetwork, SpellsSoundTable, IsNoTable, SpellsSource, IsNoSource, inputs_of};
-ghost use Rattle.rl_jobs.specs.Synthesised.{IsNotSynthesised};
-ghost use Rattle.rl_jobs.specs.Values.{IsNotValued};
-ghost use Rattle.rl_jobs.specs.Windows.{CanBeWritten, IsNotTabulated};
+ghost use Rattle.rl_jobs.specs.Synthesised.{IsSynthesisText, IsNotSynthesised};
+ghost use Rattle.rl_jobs.specs.Values.{IsValueText, IsNotValued};
+ghost use Rattle.rl_jobs.specs.Windows.{IsWindowText, CanBeWritten, IsNotTabulated};
 
 use causality::{one_row_fault, one_window_cause, sound_or_fault};
 use func_table;
 use net_lang;
+use term_store::no_two_places_alike;
 
 /// Reading networks, in the file of any number.
 pub fn reading_networks()
@@ -70,4 +71,35 @@ pub fn tabulating()
 {
     reading_networks();
     one_window_cause();
+}
+
+/// Bytes have at most one text of a module.
+pub fn one_module_text()
+    ensures { (bytes a b : List ℕ) → IsModuleText bytes a → IsModuleText bytes b → a ≡ b }
+{
+    reading_sources();
+    no_two_places_alike();
+}
+
+/// At given times, bytes have at most one text of values.
+pub fn one_value_text()
+    ensures { (times : List Time) (bytes a b : List ℕ) → IsValueText times bytes a → IsValueText times bytes b → a ≡ b }
+{
+    reading_sources();
+}
+
+/// Bytes have at most one text of a table's network.
+pub fn one_synthesis_text()
+    ensures { (bytes a b : List ℕ) → IsSynthesisText bytes a → IsSynthesisText bytes b → a ≡ b }
+{
+    reading_tables();
+    no_two_places_alike();
+}
+
+/// For a name and a window, bytes have at most one text of a table.
+pub fn one_window_text()
+    ensures { (name : List ℕ) (window : ℕ) (bytes a b : List ℕ) →
+        IsWindowText name window bytes a → IsWindowText name window bytes b → a ≡ b }
+{
+    reading_networks();
 }

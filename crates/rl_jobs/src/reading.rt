@@ -13,7 +13,7 @@ use crate::source::Source;
 use causality::check_rows;
 use func_table::{Table, TableError, read_table};
 use net_lang::{NetError, Network, read_network};
-use rl_text::{Kind, Style, first_word, one_first_word};
+use rl_text::{Kind, Name, Style, first_word, one_first_word};
 use std::alloc::Global;
 
 /// The fault of a rule that a network's text breaks.
@@ -111,22 +111,23 @@ impl Source {
         }
     }
 
-    /// What is true of every source: a table keeps the rules of tables.
+    /// What is true of every source: it keeps the rules of networks, or those of tables.
     pub fn rules(&self)
         ensures { IsRuled self.now }
     {
-        if let Source::OfTable(t) = self {
-            t.rules();
+        match self {
+            Source::OfNetwork(n) => n.rules(),
+            Source::OfTable(t) => t.rules(),
         }
     }
 
-    /// The number of inputs.
-    pub fn input_count(&self) -> usize
-        ensures { result ≡ length (inputs_of self.now) }
+    /// The names of the inputs, in order.
+    pub fn inputs(&self) -> &[Name]
+        ensures { result.now ≡ inputs_of self.now }
     {
         match self {
-            Source::OfNetwork(n) => n.inputs().len(),
-            Source::OfTable(t) => t.inputs().len(),
+            Source::OfNetwork(n) => n.inputs(),
+            Source::OfTable(t) => t.inputs(),
         }
     }
 }

@@ -24,6 +24,7 @@ fn network_of_table(alloc: Global, t: &Table) -> Result<Network, NoMemory>
     terms_have_the_networks_values();
     let mut store = Store::new(alloc)?;
     let root = minterm::synth(alloc, t, &mut store)?;
+    store.rules();
     let outputs = alone(alloc, t.output())?;
     store.extract(alloc, &[root], t.inputs(), &outputs)
 }
