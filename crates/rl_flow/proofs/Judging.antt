@@ -43,7 +43,7 @@ simulates h times =
 -- ---- tasks
 
 -- what follows from two properties of the only text
-both : (texts : List (List ℕ)) (P Q : List ℕ → Type 0) (C : Type 0) → ((bytes : List ℕ) → P bytes → Q bytes → C) → OnOne texts P → OnOne texts Q → C
+pub both : (texts : List (List ℕ)) (P Q : List ℕ → Type 0) (C : Type 0) → ((bytes : List ℕ) → P bytes → Q bytes → C) → OnOne texts P → OnOne texts Q → C
 both [] P Q C f x y = absurd x
 both (bytes ∷ []) P Q C f x y = f bytes x y
 both (bytes ∷ other ∷ texts) P Q C f x y = absurd x

@@ -2,3 +2,4 @@ pub mod Asking
 pub mod Ending
 pub mod Judging
 pub mod Loads
+pub mod OneText

@@ -5,9 +5,10 @@ ghost use Rattle.rl_time.specs.declared.time.Time.{Time};
 ghost use Rattle.verilog_text.specs.Spelling.{SpellsModule};
 ghost use Rattle.rl_jobs.specs.Readings.{IsReading};
 ghost use Rattle.rl_jobs.specs.declared.fault.Fault.{Fault};
-ghost use Rattle.rl_flow.specs.Levels.{IsNoModule, IsNotSimulated};
+ghost use Rattle.rl_flow.specs.declared.verdict.Verdict.{Verdict};
+ghost use Rattle.rl_flow.specs.Levels.{IsLevelText, IsNoModule, IsNotSimulated};
 ghost use Rattle.rl_flow.specs.Task.{Task};
-ghost use Rattle.rl_flow.specs.Answers.{CanBeDone, IsCause};
+ghost use Rattle.rl_flow.specs.Answers.{CanBeDone, IsCause, IsText};
 
 use rl_jobs::laws;
 use verilog_text::spelling_laws;
@@ -26,6 +27,25 @@ pub fn simulating()
     ensures { (times : List Time) → IsReading (λ bytes m. SpellsModule bytes m × (length times ≡ length m.inputs)) (IsNotSimulated times) }
 {
     reading_modules();
+}
+
+/// At given times, for so many cycles, bytes have at most one text of levels.
+pub fn one_level_text()
+    ensures { (cycles : ℕ) (times : List Time) (bytes a b : List ℕ) →
+        IsLevelText cycles times bytes a → IsLevelText cycles times bytes b → a ≡ b }
+{
+    reading_modules();
+}
+
+/// For each task and verdict, texts have at most one answer.
+pub fn one_text()
+    ensures { (task : Task) (v : Verdict) (texts : List (List ℕ)) (a b : List ℕ) → IsText task v texts a → IsText task v texts b → a ≡ b }
+{
+    laws::one_module_text();
+    laws::one_value_text();
+    laws::one_synthesis_text();
+    laws::one_window_text();
+    one_level_text();
 }
 
 /// For each task, texts have at most one fault for which they are refused, and none where the task can be done.

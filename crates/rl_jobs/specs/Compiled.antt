@@ -50,7 +50,8 @@ abbrev pub planted_source : Source → List Node
 planted_source (OfNetwork n) = planted n
 planted_source (OfTable t) = plant [] (table_terms t)
 
--- the gates are those of the source's terms, which are at these roots of the store
+-- The gates are those of the source's terms, which are at these roots of the store. No two places of it have the same term, so that a
+-- source has one list of gates.
 pub record AreSourceGates (s : Source) (g : Netlist) : Type 0 where
   pub roots : List Term
   pub is_store : IsNodes (planted_source s)

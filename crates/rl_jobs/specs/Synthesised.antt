@@ -17,7 +17,8 @@ use Rattle.rl_jobs.specs.declared.fault.Fault.{Fault}
 use Rattle.rl_jobs.specs.Sources.{SpellsSoundTable, IsNoTable}
 
 -- The network of a table: each min, max, lt and inc of its term is a let, in the order in which they are planted. It has the names of
--- the table, and at all times, of one for each input, the table's value.
+-- the table, and at all times, of one for each input, the table's value. The term is at one place of the store, so that a table has one
+-- network.
 pub record IsSynthesised (t : Table) (n : Net) : Type 0 where
   pub root : Term
   pub is_store : IsNodes (plant [] (table_terms t))

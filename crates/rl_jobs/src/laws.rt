@@ -43,36 +43,6 @@ pub fn reading_sources()
     reading_tables();
 }
 
-/// What `compile` can be done with, and why not.
-pub fn compiling()
-    ensures { IsReading (λ bytes s. SpellsSource bytes s × HasFewBits s) IsNotCompiled }
-{
-    reading_sources();
-}
-
-/// What `eval` can be done with at these times, and why not.
-pub fn evaluating()
-    ensures { (times : List Time) → IsReading (λ bytes s. SpellsSource bytes s × (length times ≡ length (inputs_of s))) (IsNotValued times) }
-{
-    reading_sources();
-}
-
-/// What `synth` can be done with, and why not.
-pub fn synthesising()
-    ensures { IsReading SpellsSoundTable IsNotSynthesised }
-{
-    reading_tables();
-}
-
-/// What `tabulate` can be done with for this name and window, and why not.
-pub fn tabulating()
-    ensures { (name : List ℕ) (window : ℕ) →
-        IsReading (λ bytes n. SpellsNetwork bytes n × CanBeWritten name window n) (IsNotTabulated name window) }
-{
-    reading_networks();
-    one_window_cause();
-}
-
 /// Bytes have at most one text of a module.
 pub fn one_module_text()
     ensures { (bytes a b : List ℕ) → IsModuleText bytes a → IsModuleText bytes b → a ≡ b }
@@ -102,4 +72,34 @@ pub fn one_window_text()
         IsWindowText name window bytes a → IsWindowText name window bytes b → a ≡ b }
 {
     reading_networks();
+}
+
+/// What `compile` can be done with, and why not.
+pub fn compiling()
+    ensures { IsReading (λ bytes s. SpellsSource bytes s × HasFewBits s) IsNotCompiled }
+{
+    reading_sources();
+}
+
+/// What `eval` can be done with at these times, and why not.
+pub fn evaluating()
+    ensures { (times : List Time) → IsReading (λ bytes s. SpellsSource bytes s × (length times ≡ length (inputs_of s))) (IsNotValued times) }
+{
+    reading_sources();
+}
+
+/// What `synth` can be done with, and why not.
+pub fn synthesising()
+    ensures { IsReading SpellsSoundTable IsNotSynthesised }
+{
+    reading_tables();
+}
+
+/// What `tabulate` can be done with for this name and window, and why not.
+pub fn tabulating()
+    ensures { (name : List ℕ) (window : ℕ) →
+        IsReading (λ bytes n. SpellsNetwork bytes n × CanBeWritten name window n) (IsNotTabulated name window) }
+{
+    reading_networks();
+    one_window_cause();
 }

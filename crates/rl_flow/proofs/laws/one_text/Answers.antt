@@ -1,0 +1,12 @@
+use Rattle.rl_flow.proofs.OneText.{one_text}
+use Rattle.rl_flow.proofs.laws.one_text.Goals as goal
+
+pub returns : goal.returns
+returns c =
+    one_text (record {
+      modules = c.one_module_text.ensures;
+      values = c.one_value_text.ensures;
+      networks = c.one_synthesis_text.ensures;
+      windows = c.one_window_text.ensures;
+      levels = c.one_level_text.ensures;
+    })
