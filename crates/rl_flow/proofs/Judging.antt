@@ -1,18 +1,24 @@
--- For each task, texts have at most one fault.
-use Rattle.std.proofs.Common.{◌≡◌, ℕ, List, [], ◌∷◌, length, sym, ◌∙◌}
+-- For each task, texts have at most one fault, and one where the task can't be done.
+use Rattle.std.proofs.Common.{◌≡◌, ℕ, ◌⊎◌, inl, inr, List, [], ◌∷◌, length, refl, sym, ◌∙◌}
+use Rattle.std.specs.Prelude.{◌≢◌}
+use Rattle.std.proofs.lemmas.Bool.{cases_eq}
 use Rattle.rl_time.specs.declared.time.Time.{Time}
+use Rattle.net_model.specs.Formula.{Net}
 use Rattle.net_lang.specs.Spelling.{SpellsNetwork}
 use Rattle.verilog_text.specs.declared.rule.Rule.{Rule}
 use Rattle.circuit.specs.Circuit.{Circuit}
 use Rattle.verilog_text.specs.Spelling.{SpellsModule, IsBroken}
 use Rattle.rl_jobs.specs.declared.fault.Fault.{Fault}
 use Rattle.rl_jobs.specs.declared.fault.Fault.TheVariants as fault
+use Rattle.rl_jobs.specs.declared.source.Source.{Source}
 use Rattle.rl_jobs.specs.Readings.{IsReading, reads_staged}
 use Rattle.rl_jobs.specs.Sources.{SpellsSource, SpellsSoundTable, inputs_of}
 use Rattle.rl_jobs.specs.Compiled.{HasFewBits, CanBeCompiled, IsNotCompiled}
 use Rattle.rl_jobs.specs.Synthesised.{CanBeSynthesised, IsNotSynthesised}
 use Rattle.rl_jobs.specs.Values.{CanBeValued, IsNotValued}
 use Rattle.rl_jobs.specs.Windows.{CanBeWritten, CanBeTabulated, IsNotTabulated}
+use Rattle.verilog_laws.specs.Answers.{HasAnswer}
+use Rattle.rl_flow.specs.Asked.{limits}
 use Rattle.rl_flow.specs.Levels.{IsNoModule, HasOtherPorts, CanBeSimulated, IsNotSimulated}
 use Rattle.rl_flow.specs.Task.{Task, Compile, Eval, Synth, Tabulate, Sim}
 use Rattle.rl_flow.specs.Answers.{OnOne, CanBeDone, IsCause}
@@ -22,23 +28,34 @@ use Rattle.rl_flow.specs.Answers.{OnOne, CanBeDone, IsCause}
 same_fault : (r s : Rule) (k l : ℕ) → r ≡ s → k ≡ l → fault.Module 1 r k ≡ fault.Module 1 s l
 same_fault r s k l e f = cc
 
+module_or_fault : (bytes : List ℕ) → HasAnswer bytes → ((m : Circuit) × SpellsModule bytes m) ⊎ ((f : Fault) × IsNoModule bytes f)
+module_or_fault bytes (inl x) = inl x
+module_or_fault bytes (inr x) = inr (fault.Module 1 x.0 x.1, (x.0, x.1, refl, x.2))
+
 pub reads_modules : ((text : List ℕ) (m n : Circuit) → SpellsModule text m → SpellsModule text n → m ≡ n) →
     ((text : List ℕ) (m : Circuit) (r : Rule) (line : ℕ) → SpellsModule text m → IsBroken text r line → ⊥) →
     ((text : List ℕ) (r s : Rule) (k l : ℕ) → IsBroken text r k → IsBroken text s l → (r ≡ s) × (k ≡ l)) →
-    IsReading SpellsModule IsNoModule
-reads_modules f g h = record {
+    ((text : List ℕ) → HasAnswer text) → IsReading SpellsModule IsNoModule
+reads_modules f g h either = record {
   one = f;
   one_fault = λ bytes a b x y.
       let same = h bytes x.0 y.0 x.1 y.1 x.3 y.3 in
       x.2 ∙ (same_fault x.0 y.0 x.1 y.1 same.0 same.1 ∙ sym y.2);
   not_both = λ bytes m a y x. g bytes m x.0 x.1 y x.3;
+  some = λ bytes. module_or_fault bytes (either bytes);
 }
+
+ports_or_fault : (times : List Time) (m : Circuit) → (length m.inputs ≡ length times) ⊎ (length m.inputs ≢ length times) →
+    (length times ≡ length m.inputs) ⊎ ((f : Fault) × HasOtherPorts times m f)
+ports_or_fault times m (inl same) = inl (sym same)
+ports_or_fault times m (inr other) = inr (fault.Inputs (length m.inputs), (refl, other))
 
 pub simulates : IsReading SpellsModule IsNoModule → (times : List Time) →
     IsReading (λ bytes m. SpellsModule bytes m × (length times ≡ length m.inputs)) (IsNotSimulated times)
 simulates h times =
     reads_staged SpellsModule IsNoModule (λ (m : Circuit). length times ≡ length m.inputs) (HasOtherPorts times) h
     (λ m f g x y. x.0 ∙ sym y.0) (λ m f same other. other.1 (sym same))
+    (λ bytes m is. ports_or_fault times m (cases_eq (length m.inputs) (length times)))
 
 -- ---- tasks
 
@@ -79,3 +96,25 @@ no_fault h (Tabulate name window) texts f x y =
     both texts (CanBeTabulated name window) (λ b. IsNotTabulated name window b f) ⊥ (λ b can bad. (h.tabulating name window).not_both b can.0 f (can.1, can.2) bad) x y
 no_fault h (Sim cycles times) texts f x y =
     both texts (CanBeSimulated times) (λ b. IsNotSimulated times b f) ⊥ (λ b can bad. (h.simulating times).not_both b can.0 f (can.1, can.2) bad) x y
+
+-- what follows for one text from what follows for each
+only : (texts : List (List ℕ)) (P : List ℕ → Type 0) (Q : Fault → List ℕ → Type 0) → length texts ≡ 1 → ((bytes : List ℕ) → P bytes ⊎ ((f : Fault) × Q f bytes)) →
+    OnOne texts P ⊎ ((f : Fault) × OnOne texts (Q f))
+only [] P Q e either = absurd (cc)
+only (bytes ∷ []) P Q e either = either bytes
+only (bytes ∷ other ∷ texts) P Q e either = absurd (cc)
+
+-- one thing of both properties
+flat : (S : Type 0) (P Q : S → Type 0) (R : Type 0) → ((s : S) × (P s × Q s)) ⊎ R → ((s : S) × P s × Q s) ⊎ R
+flat S P Q R (inl x) = let p = x.1 in inl (x.0, p.0, p.1)
+flat S P Q R (inr r) = inr r
+
+pub done_or_fault : Readings → (task : Task) (texts : List (List ℕ)) → length texts ≡ length (limits task) → CanBeDone task texts ⊎ ((f : Fault) × IsCause task texts f)
+done_or_fault h Compile texts e = only texts CanBeCompiled (λ f b. IsNotCompiled b f) e (λ b. flat Source (SpellsSource b) HasFewBits ((f : Fault) × IsNotCompiled b f) (h.compiling.some b))
+done_or_fault h (Eval times) texts e = only texts (CanBeValued times) (λ f b. IsNotValued times b f) e
+    (λ b. flat Source (SpellsSource b) (λ s. length times ≡ length (inputs_of s)) ((f : Fault) × IsNotValued times b f) ((h.evaluating times).some b))
+done_or_fault h Synth texts e = only texts CanBeSynthesised (λ f b. IsNotSynthesised b f) e h.synthesising.some
+done_or_fault h (Tabulate name window) texts e = only texts (CanBeTabulated name window) (λ f b. IsNotTabulated name window b f) e
+    (λ b. flat Net (SpellsNetwork b) (CanBeWritten name window) ((f : Fault) × IsNotTabulated name window b f) ((h.tabulating name window).some b))
+done_or_fault h (Sim cycles times) texts e = only texts (CanBeSimulated times) (λ f b. IsNotSimulated times b f) e
+    (λ b. flat Circuit (SpellsModule b) (λ m. length times ≡ length m.inputs) ((f : Fault) × IsNotSimulated times b f) ((h.simulating times).some b))

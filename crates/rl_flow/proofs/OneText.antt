@@ -1,5 +1,5 @@
 -- For each task and verdict, texts have at most one answer.
-use Rattle.std.proofs.Common.{◌≡◌, ℕ, List, [], ◌∷◌, length, sym, ◌∙◌, ap, subst}
+use Rattle.std.proofs.Common.{◌≡◌, ℕ, List, length, sym, ◌∙◌, ap, subst}
 use Rattle.rl_time.specs.declared.time.Time.{Time}
 use Rattle.verilog_text.specs.Spelling.{SpellsModule}
 use Rattle.circuit.specs.Circuit.{Circuit}
@@ -14,7 +14,7 @@ use Rattle.rl_flow.specs.Levels.{IsNoModule, IsLevelText, level_lines}
 use Rattle.rl_flow.specs.declared.verdict.Verdict.{Verdict}
 use Rattle.rl_flow.specs.declared.verdict.Verdict.TheVariants as verdict
 use Rattle.rl_flow.specs.Task.{Task, Compile, Eval, Synth, Tabulate, Sim}
-use Rattle.rl_flow.specs.Answers.{OnOne, IsText}
+use Rattle.rl_flow.specs.Answers.{IsText}
 use Rattle.rl_flow.proofs.Judging.{both}
 
 -- ---- sim

@@ -1,16 +1,18 @@
-//! Texts have at most one fault for which a task is refused, and none where it can be done; and a module's text is read as
-//! at most one module.
-ghost use Rattle.std.specs.Prelude.{◌≡◌, ℕ, List, length};
+//! With texts, as many as its files, a task can be done, or is refused for exactly one fault, and they fix its answer; and a
+//! text is read as exactly one module, or has exactly one fault.
+ghost use Rattle.std.specs.Prelude.{◌≡◌, ◌⊎◌, ℕ, List, length};
 ghost use Rattle.rl_time.specs.declared.time.Time.{Time};
 ghost use Rattle.verilog_text.specs.Spelling.{SpellsModule};
 ghost use Rattle.rl_jobs.specs.Readings.{IsReading};
 ghost use Rattle.rl_jobs.specs.declared.fault.Fault.{Fault};
 ghost use Rattle.rl_flow.specs.declared.verdict.Verdict.{Verdict};
+ghost use Rattle.rl_flow.specs.Asked.{limits};
 ghost use Rattle.rl_flow.specs.Levels.{IsLevelText, IsNoModule, IsNotSimulated};
 ghost use Rattle.rl_flow.specs.Task.{Task};
 ghost use Rattle.rl_flow.specs.Answers.{CanBeDone, IsCause, IsText};
 
 use rl_jobs::laws;
+use verilog_laws::spells_or_breaks;
 use verilog_text::spelling_laws;
 
 /// Reading modules.
@@ -20,6 +22,7 @@ pub fn reading_modules()
     spelling_laws::one_module();
     spelling_laws::no_broken_rule();
     spelling_laws::one_broken_rule();
+    spells_or_breaks();
 }
 
 /// What `sim` can be done with at these times, and why not.
@@ -52,6 +55,17 @@ pub fn one_text()
 pub fn one_fault()
     ensures one { (task : Task) (texts : List (List ℕ)) (f g : Fault) → IsCause task texts f → IsCause task texts g → f ≡ g }
     ensures none { (task : Task) (texts : List (List ℕ)) (f : Fault) → CanBeDone task texts → IsCause task texts f → ⊥ }
+{
+    laws::compiling();
+    laws::evaluating();
+    laws::synthesising();
+    laws::tabulating();
+    simulating();
+}
+
+/// Each task can be done with texts, one for each of its files, or they have a fault for which it is refused.
+pub fn done_or_fault()
+    ensures { (task : Task) (texts : List (List ℕ)) → length texts ≡ length (limits task) → CanBeDone task texts ⊎ ((f : Fault) × IsCause task texts f) }
 {
     laws::compiling();
     laws::evaluating();

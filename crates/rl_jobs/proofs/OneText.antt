@@ -1,5 +1,5 @@
 -- Bytes have at most one text for each job.
-use Rattle.std.proofs.Common.{◌≡◌, ℕ, ◌<◌, List, [], ◌∷◌, length, refl, sym, ◌∙◌, ap, subst, Option, Some}
+use Rattle.std.proofs.Common.{◌≡◌, ℕ, ◌<◌, List, [], ◌∷◌, length, refl, sym, ◌∙◌, ap, subst}
 use Rattle.std.specs.List.{All}
 use Rattle.std.proofs.lemmas.List.Elements.{All-head, All-tail}
 use Rattle.rl_time.specs.declared.time.Time.{Time}
@@ -30,6 +30,7 @@ use Rattle.rl_jobs.specs.Compiled.{planted_source, AreSourceGates, IsCompiled, I
 use Rattle.rl_jobs.specs.Synthesised.{IsSynthesised, IsSynthesisText}
 use Rattle.rl_jobs.specs.Values.{IsValueText, value_lines}
 use Rattle.rl_jobs.specs.Windows.{output_place, IsWindowTable, IsWindowText}
+use Rattle.rl_jobs.proofs.Judging.{some_place}
 
 -- ---- places
 
@@ -105,9 +106,6 @@ one_synthesis_text h apart bytes a b x y =
     ∙ (ap network_text (one_network apart y.table x.network y.network (subst (λ (t : Table). IsSynthesised t x.network) same x.is) y.is) ∙ sym y.written)
 
 -- ---- tabulate
-
-some_place : (j k : ℕ) (o : Option ℕ) → o ≡ Some j → o ≡ Some k → j ≡ k
-some_place j k o e f = cc
 
 -- the text of a table of these parts
 abbrev text_of : List (List ℕ) → List ℕ → List Row → List ℕ

@@ -1,5 +1,5 @@
-//! Texts are read as at most one thing, or have at most one fault; and a job can be done with a text, or has at most one
-//! fault for which it is refused.
+//! Each text is read as exactly one thing, or has exactly one fault; and a job can be done with a text, or has exactly one
+//! fault for which it is refused. What a job makes of a text is fixed by the text.
 ghost use Rattle.std.specs.Prelude.{◌≡◌, ℕ, List, length};
 ghost use Rattle.rl_time.specs.declared.time.Time.{Time};
 ghost use Rattle.net_lang.specs.Spelling.{SpellsNetwork};
@@ -10,9 +10,10 @@ ghost use Rattle.rl_jobs.specs.Synthesised.{IsSynthesisText, IsNotSynthesised};
 ghost use Rattle.rl_jobs.specs.Values.{IsValueText, IsNotValued};
 ghost use Rattle.rl_jobs.specs.Windows.{IsWindowText, CanBeWritten, IsNotTabulated};
 
-use causality::{one_row_fault, one_window_cause, sound_or_fault};
+use causality::{a_window_or_a_cause, one_row_fault, one_window_cause, sound_or_fault};
 use func_table;
 use net_lang;
+use rl_text::{a_first_word_or_none, one_first_word};
 use term_store::no_two_places_alike;
 
 /// Reading networks, in the file of any number.
@@ -22,6 +23,7 @@ pub fn reading_networks()
     net_lang::one_network();
     net_lang::no_cause();
     net_lang::one_cause();
+    net_lang::a_network_or_a_cause();
 }
 
 /// Reading tables of sound rows.
@@ -31,6 +33,8 @@ pub fn reading_tables()
     func_table::one_table();
     func_table::no_cause();
     func_table::one_cause();
+    func_table::a_table_or_a_cause();
+    func_table::what_is_spelled_is_a_table();
     sound_or_fault();
     one_row_fault();
 }
@@ -39,6 +43,8 @@ pub fn reading_tables()
 pub fn reading_sources()
     ensures { (file : ℕ) → IsReading SpellsSource (IsNoSource file) }
 {
+    one_first_word();
+    a_first_word_or_none();
     reading_networks();
     reading_tables();
 }
@@ -102,4 +108,5 @@ pub fn tabulating()
 {
     reading_networks();
     one_window_cause();
+    a_window_or_a_cause();
 }
