@@ -1,5 +1,5 @@
 -- How a run ends on known files.
-use Rattle.std.proofs.Common.{◌≡◌, ℕ, zero, suc, ◌+◌, ◌<◌, ◌≤◌, List, [], ◌∷◌, length, take, refl, sym, ◌∙◌, ap, subst, arith, inl, inr, Option, Some, None, String, Result, Ok, Err}
+use Rattle.std.proofs.Common.{◌≡◌, ℕ, zero, suc, ◌+◌, ◌<◌, ◌≤◌, List, [], ◌∷◌, length, take, refl, sym, ◌∙◌, ap, subst, arith, inl, inr, Option, Some, None, Result, Ok, Err}
 use Rattle.std.specs.Prelude.{◌⊎◌, ◌≢◌, IsSome, IsSomeAnd, IsOkAnd, IsErrAnd, slice_get, Contains}
 use Rattle.std.specs.Map.{lookup}
 use Rattle.std.specs.Str.{bytes_eq}
@@ -17,7 +17,7 @@ use Rattle.rl_jobs.specs.Values.{IsValueText, CanBeValued}
 use Rattle.rl_jobs.specs.Windows.{IsWindowText, CanBeTabulated}
 use Rattle.rl_flow.specs.Levels.{IsLevelText, CanBeSimulated}
 use Rattle.rl_flow.specs.Task.{Task, Compile, Eval, Synth, Tabulate, Sim, Command}
-use Rattle.rl_flow.specs.Asked.{Asked, ShelfState, with_limits, asked, IsTextOf, AreTextsOf, Reaches, IsTooLong}
+use Rattle.rl_flow.specs.Asked.{Asked, ShelfState, with_limits, asked, IsTextOf, AreTextsOf, IsTooLong}
 use Rattle.rl_flow.specs.Answers.{OnOne, IsText, MayHave, CanBeDone, IsCause}
 use Rattle.rl_flow.specs.Message.{line_of}
 use Rattle.rl_flow.specs.Status.{status_of}

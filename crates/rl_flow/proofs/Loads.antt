@@ -1,10 +1,9 @@
 -- Files that are loaded in order.
-use Rattle.std.proofs.Common.{◌≡◌, ℕ, zero, suc, ◌+◌, ◌-◌, ◌^◌, ◌<◌, ◌≤◌, min, List, [], ◌∷◌, ◌++◌, length, take, map, refl, sym, ◌∙◌, ap, subst, arith, Option, Some, None, Result, Ok, Err}
+use Rattle.std.proofs.Common.{◌≡◌, ℕ, zero, suc, ◌+◌, ◌<◌, ◌≤◌, List, [], ◌∷◌, ◌++◌, length, take, map, refl, sym, ◌∙◌, ap, subst, arith, Option, Some, Result, Ok, Err}
 use Rattle.std.specs.Prelude.{IfErr, IsErrAnd, slice_get, slice_index_or, String, string_bytes}
 use Rattle.std.specs.declared.alloc.Global.{Global}
-use Rattle.rl_io.specs.Causes.{Rose, RoseBy}
 use Rattle.rl_io.specs.Files.{Files, OnFile}
-use Rattle.rl_flow.specs.Asked.{Asked, asked, ShelfState, with_limits, IsTextOf, AreTextsOf, AreWithin, Reaches, IsTooLong, IsFaulty, most_bytes, GaveAtMost}
+use Rattle.rl_flow.specs.Asked.{Asked, asked, ShelfState, with_limits, IsTextOf, AreTextsOf, AreWithin, most_bytes, GaveAtMost}
 use Rattle.rl_jobs.specs.declared.error.JobError.{JobError}
 use Rattle.rl_jobs.specs.declared.error.JobError.TheVariants as job
 use Rattle.rl_jobs.specs.Sources.{FailsBy}

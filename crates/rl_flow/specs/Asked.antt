@@ -1,8 +1,8 @@
 -- The files that a command reads.
 use Rattle.std.specs.Prelude.{◌≡◌, ℕ, ◌+◌, ◌<◌, ◌≤◌, List, [], ◌∷◌, length, take, slice_get, Option, Some}
-use Rattle.rl_io.specs.Causes.{Rose, RoseBy}
+use Rattle.rl_io.specs.Causes.{Rose}
 use Rattle.rl_io.specs.Files.{Files, OnFile}
-use Rattle.rl_flow.specs.Task.{Task, Compile, Eval, Synth, Tabulate, Sim, Command}
+use Rattle.rl_flow.specs.Task.{Task, Sim, Command}
 
 -- the most bytes that each file of a task may have, in the order of the files
 abbrev pub limits : Task → List ℕ

@@ -1,4 +1,4 @@
-use Rattle.std.proofs.Common.{◌≡◌, ◌∙◌, ◌+◌, ℕ, List, Vec, Global, map, ap, subst, refl, Some}
+use Rattle.std.proofs.Common.{◌≡◌, ◌∙◌, ℕ, Vec, Global, map, ap, refl, Some}
 use Rattle.std.specs.Prelude.{slice_get, slice_index_or, string_bytes}
 use Rattle.rl_flow.specs.Words.{texts_of}
 use Rattle.rl_flow.specs.Asked.{shelf_state, with_limits}

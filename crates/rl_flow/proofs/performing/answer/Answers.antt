@@ -1,10 +1,10 @@
-use Rattle.std.proofs.Common.{◌≡◌, ◌∙◌, ℕ, List, Vec, Global, length, map, ap, sym, subst, Some}
+use Rattle.std.proofs.Common.{◌∙◌, ℕ, List, Vec, Global, length, map, ap, sym, subst}
 use Rattle.std.proofs.lemmas.List.{length-map}
 use Rattle.rl_flow.specs.Words.{texts_of}
 use Rattle.rl_flow.specs.Task.{Command, command_of}
 use Rattle.rl_flow.specs.Request.{task}
 use Rattle.rl_flow.specs.Jobs.{refusal_of}
-use Rattle.rl_flow.specs.Asked.{shelf_state, asked, limits, with_limits, AreTextsOf, AreWithin}
+use Rattle.rl_flow.specs.Asked.{shelf_state, with_limits, AreTextsOf, AreWithin}
 use Rattle.rl_flow.specs.Outcome.{HasCause}
 use Rattle.rl_flow.proofs.Loads.{within, one_each, refuses, handed_on}
 use Rattle.rl_flow.proofs.performing.answer.Goals as goal

@@ -1,5 +1,4 @@
-use Rattle.std.proofs.Common.{◌≡◌, ◌∙◌, ◌<◌, inl, inr, refl}
-use Rattle.rl_io.specs.Causes.{Rose}
+use Rattle.std.proofs.Common.{inr}
 use Rattle.rl_flow.specs.Words.{texts_of}
 use Rattle.rl_flow.specs.Task.{command_of}
 use Rattle.rl_flow.specs.Asked.{shelf_state}
