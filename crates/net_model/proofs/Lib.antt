@@ -1,0 +1,2 @@
+-- Lemmas on the printing of networks.
+pub mod Naming

@@ -1,6 +1,7 @@
-ghost use Rattle.std.specs.Prelude.{◌≡◌, ◌++◌, [], slice_index_or, OnOk, IfOk};
+ghost use Rattle.std.specs.Prelude.{◌≡◌, ◌++◌, ◌<◌, [], length, slice_index_or, OnOk, IfOk};
+ghost use Rattle.std.specs.List.{AllByRecursion};
 ghost use Rattle.net_model.specs.View.{formula};
-ghost use Rattle.net_model.specs.Rules.{names_of};
+ghost use Rattle.net_model.specs.Rules.{names_of, IsOver};
 ghost use Rattle.net_model.specs.Text.{formula_text, equation_text, equations_text, spaced_names, network_text};
 
 use crate::ast::{Binding, Expr, Network};
@@ -19,21 +20,17 @@ fn put_inputs(text: &mut Vec<u8>, names: &[Name]) -> Result<(), NoMemory>
 }
 
 fn put_input(text: &mut Vec<u8>, names: &[Name], place: u32) -> Result<(), NoMemory>
+    requires { place < length names.now }
     ensures { OnOk result (text.new.items ≡ text.old.items ++ slice_index_or names.now place []) }
 {
-    match names.get(place as usize) {
-        Some(name) => put(text, name.bytes()),
-        None => Ok(()),
-    }
+    put(text, names[place as usize].bytes())
 }
 
 fn put_let(text: &mut Vec<u8>, lets: &[Binding], place: u32) -> Result<(), NoMemory>
+    requires { place < length lets.now }
     ensures { OnOk result (text.new.items ≡ text.old.items ++ slice_index_or (names_of lets.now) place []) }
 {
-    match lets.get(place as usize) {
-        Some(binding) => put(text, binding.name().bytes()),
-        None => Ok(()),
-    }
+    put(text, lets[place as usize].name().bytes())
 }
 
 fn put_expr(
@@ -42,6 +39,7 @@ fn put_expr(
     lets: &[Binding],
     expr: &Expr,
 ) -> Result<(), NoMemory>
+    requires { IsOver (length inputs.now) (length lets.now) (formula expr.now) }
     ensures { OnOk result (text.new.items ≡ text.old.items ++ formula_text inputs.now (names_of lets.now) (formula expr.now)) }
 {
     match expr {
@@ -86,6 +84,7 @@ fn put_equation(
     lets: &[Binding],
     binding: &Binding,
 ) -> Result<(), NoMemory>
+    requires { IsOver (length inputs.now) (length lets.now) binding.now.body }
     ensures { OnOk result (text.new.items ≡ text.old.items ++ equation_text word.now inputs.now (names_of lets.now) binding.now) }
 {
     put(text, word)?;
@@ -102,6 +101,7 @@ fn put_equations(
     lets: &[Binding],
     all: &[Binding],
 ) -> Result<(), NoMemory>
+    requires { AllByRecursion (λ e. IsOver (length inputs.now) (length lets.now) e.body) all.now }
     ensures { OnOk result (text.new.items ≡ text.old.items ++ equations_text word.now inputs.now (names_of lets.now) all.now) }
 {
     for binding in all {
@@ -117,6 +117,7 @@ pub fn print_network(alloc: Global, n: &Network) -> Result<Vec<u8>, NoMemory>
     ensures { IfOk result (λ text. text.items ≡ network_text n.now) }
 {
     let (inputs, lets) = (n.inputs(), n.lets());
+    n.rules();
     let mut text = Vec::from_slice(alloc, b"racenet 1\ninput")?;
     put_inputs(&mut text, inputs)?;
     put(&mut text, b"\n")?;
