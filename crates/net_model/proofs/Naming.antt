@@ -26,11 +26,11 @@ pub lets_are_over : (n : Net) (inputs : List (List ℕ)) (lets : List Equation) 
 lets_are_over n inputs lets p q h =
     let all : AllByRecursion (λ (e : Equation). IsOver (length n.inputs) (length n.lets) e.body) n.lets = lets_name_lets (length n.inputs) 0 (length n.lets) n.lets (omega arith) h.lets_over in
     subst (λ (is : List (List ℕ)). AllByRecursion (λ (e : Equation). IsOver (length is) (length lets) e.body) lets) (sym p)
-        (subst (λ (ls : List Equation). AllByRecursion (λ (e : Equation). IsOver (length n.inputs) (length ls) e.body) ls) (sym q) all)
+    (subst (λ (ls : List Equation). AllByRecursion (λ (e : Equation). IsOver (length n.inputs) (length ls) e.body) ls) (sym q) all)
 
 -- each output names inputs and lets of its network
 pub outputs_are_over : (n : Net) (inputs : List (List ℕ)) (lets outputs : List Equation) → inputs ≡ n.inputs → lets ≡ n.lets → outputs ≡ n.outputs → IsNetwork n → AllByRecursion (λ e. IsOver (length inputs) (length lets) e.body) outputs
 outputs_are_over n inputs lets outputs p q r h =
     subst (λ (is : List (List ℕ)). AllByRecursion (λ (e : Equation). IsOver (length is) (length lets) e.body) outputs) (sym p)
-        (subst (λ (ls : List Equation). AllByRecursion (λ (e : Equation). IsOver (length n.inputs) (length ls) e.body) outputs) (sym q)
-            (subst (AllByRecursion (λ (e : Equation). IsOver (length n.inputs) (length n.lets) e.body)) (sym r) h.outputs_over))
+    (subst (λ (ls : List Equation). AllByRecursion (λ (e : Equation). IsOver (length n.inputs) (length ls) e.body) outputs) (sym q)
+    (subst (AllByRecursion (λ (e : Equation). IsOver (length n.inputs) (length n.lets) e.body)) (sym r) h.outputs_over))
