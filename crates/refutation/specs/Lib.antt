@@ -1,0 +1,12 @@
+pub mod Path
+pub mod Cases
+pub mod Preorder
+pub mod Limits
+pub mod Trees
+pub mod Forms
+pub mod LineRules
+pub mod Spelling
+pub mod Outcome
+pub mod FormReading
+pub mod Draft
+pub mod Text
