@@ -120,7 +120,7 @@ first_are_short : (spans : List ℕ) (es : List Equation) → AreShort (fold (λ
 first_are_short spans [] h = h
 first_are_short spans (e ∷ es) h = front_is_short spans (span spans e.body) (first_are_short (spans ++ span spans e.body ∷ []) es h)
 
-let_is_short : (before after : List Equation) (e : Equation) → AreShort (let_spans (before ++ e ∷ after)) → span (let_spans before) e.body ≤ 1000000
+pub let_is_short : (before after : List Equation) (e : Equation) → AreShort (let_spans (before ++ e ∷ after)) → span (let_spans before) e.body ≤ 1000000
 let_is_short before after e h =
     let split = fold-append (λ (spans : List ℕ) (e : Equation). spans ++ span spans e.body ∷ []) [] before (e ∷ after) in
     last_is_short (let_spans before) _ (first_are_short _ after (subst AreShort split h))

@@ -3,3 +3,4 @@ pub mod Agreement
 pub mod Causality
 pub mod Invariance
 pub mod Numbers
+pub mod Premised

@@ -1,3 +1,4 @@
 pub mod Room
 pub mod Causal
 pub mod Outputs
+pub mod Premises

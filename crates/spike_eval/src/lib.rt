@@ -10,4 +10,4 @@ mod evaluation;
 mod laws;
 
 pub use evaluation::eval;
-pub use laws::{numbers_decide, outputs_are_causal, outputs_are_invariant};
+pub use laws::{numbers_decide, numbers_decide_under, outputs_are_causal, outputs_are_invariant};

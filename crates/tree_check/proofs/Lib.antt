@@ -1,0 +1,13 @@
+pub mod Chains
+pub mod Forms
+pub mod Steps
+pub mod Decisions
+pub mod Constants
+pub mod Cells
+pub mod Stacks
+pub mod Names
+pub mod Marks
+pub mod Setting
+pub mod Walks
+pub mod Law
+pub mod Verdicts

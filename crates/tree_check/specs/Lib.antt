@@ -1,0 +1,9 @@
+pub mod Forms
+pub mod Valid
+pub mod Verdict
+pub mod Bounds
+pub mod Small
+pub mod Stack
+pub mod Room
+pub mod Needed
+pub mod Code
