@@ -1,0 +1,105 @@
+-- What the kept solution gives a search, and what a search gives it.
+use Rattle.std.proofs.Common.{◌≡◌, ℕ, zero, suc, ◌<◌, ◌≤◌, ap, subst, arith, sym, ◌∙◌, List, [], ◌∷◌, ◌++◌, inl, inr, ◌⊎◌, length, get_or, Option, None}
+use Rattle.std.specs.Prelude.{IfNone, ℤ, pos, ◌+ℤ◌, ◌-ℤ◌, ◌≤ℤ◌}
+use Rattle.std.proofs.lemmas.Int.{ints}
+use Rattle.refutation.specs.declared.assumption.Assumption.{Assumption}
+use Rattle.refutation.specs.Path.{Meets, MeetsAll, at, assumption}
+use Rattle.diff_bounds.specs.declared.search.Search.{Search}
+use Rattle.diff_bounds.specs.Bounds.{more, integers, IsSolution, Implies}
+use Rattle.diff_bounds.specs.Pressing.{IsNear, AreNear}
+use Rattle.diff_bounds.specs.Search.{of, raised, AreMet, IsFound, IsRunning, IsBounds, IsSearched}
+use Rattle.diff_bounds.proofs.Ending.{met_at}
+use Rattle.diff_bounds.proofs.Least.{chain_shows, meets_more}
+
+near_at : (n : ℕ) (edges : List Assumption) (f : ℕ) → f < length edges → AreNear n edges → IsNear n (at edges f)
+near_at n [] f h m = absurd (omega arith)
+near_at n (a ∷ edges) zero h m = m.0
+near_at n (a ∷ edges) (suc f) h m = near_at n edges f (omega arith) m.1
+
+pub are_met : (n : ℕ) (edges : List Assumption) (ys : List ℕ) → IsBounds n edges ys → AreMet n edges (of ys)
+are_met n edges ys b f h = let near = near_at n edges f h b.near in (near.from, (near.to, (met_at (integers ys) edges f h b.solution.meets, near.high)))
+
+pub near_more : (n : ℕ) (edges : List Assumption) (a : Assumption) → AreNear n edges → IsNear n a → AreNear n (edges ++ a ∷ [])
+near_more n [] a m h = (h, tt)
+near_more n (b ∷ edges) a m h = (m.0, near_more n edges a m.1 h)
+
+pub near_fewer : (n : ℕ) (edges others : List Assumption) → AreNear n (edges ++ others) → AreNear n edges
+near_fewer n [] others m = tt
+near_fewer n (a ∷ edges) others m = (m.0, near_fewer n edges others m.1)
+
+pub meets_fewer : (x : ℕ → ℤ) (edges others : List Assumption) → MeetsAll x (edges ++ others) → MeetsAll x edges
+meets_fewer x [] others m = tt
+meets_fewer x (a ∷ edges) others m = (m.0, meets_fewer x edges others m.1)
+
+pub meets_last : (x : ℕ → ℤ) (edges : List Assumption) (a : Assumption) → MeetsAll x (edges ++ a ∷ []) → Meets x a
+meets_last x [] a m = m.0
+meets_last x (b ∷ edges) a m = meets_last x edges a m.1
+
+-- a solution of more assumptions is one of fewer
+pub solves_fewer : (n : ℕ) (edges others : List Assumption) (ys : List ℕ) → IsSolution n (edges ++ others) ys → IsSolution n edges ys
+solves_fewer n edges others ys s = record { long = s.long; meets = meets_fewer (integers ys) edges others s.meets; zero = s.zero; small = s.small }
+
+-- a chain below what the kept numbers leave shows the assumption
+pub held : (n : ℕ) (edges : List Assumption) (y d : ℕ → ℕ) (i j room : ℕ) (w : ℤ) → IsFound n edges y d j room → i < n → d i < room
+    → ((pos (y i) -ℤ pos (y j)) +ℤ pos room) ≡ (w +ℤ pos 1) → Implies edges i j w
+held n edges y d i j room w f hi lt is x m = elim (f.shown i hi) [
+  | inl le ↦ absurd (omega (arith, lt, le))
+  | inr h ↦ let a = chain_shows x edges i j h.chain m h.runs in let s = h.sum in let z = f.here in omega (arith, ints, a, s, z, is, lt)
+]
+
+-- where there is none, the raised numbers are a solution that breaks it
+pub not_held : (n : ℕ) (edges : List Assumption) (y d : ℕ → ℕ) (i j room : ℕ) (w : ℤ) → IsFound n edges y d j room → room ≤ d i
+    → ((pos (y i) -ℤ pos (y j)) +ℤ pos room) ≡ (w +ℤ pos 1) → Implies edges i j w → ⊥
+not_held n edges y d i j room w f le is all = let a = all (raised y d) f.meets in let z = f.here in omega (arith, ints, a, z, is, le)
+
+-- numbers that break it, and meet the others, show that it isn't implied
+pub broken : (edges : List Assumption) (ys : List ℕ) (i j need : ℕ) (w : ℤ) → MeetsAll (integers ys) edges
+    → (pos (get_or ys i 0) -ℤ pos (get_or ys j 0)) ≡ (w +ℤ pos need) → 0 < need → Implies edges i j w → ⊥
+broken edges ys i j need w m is lt all = let a = all (integers ys) m in omega (arith, ints, a, is, lt)
+
+pub solves_more : (n : ℕ) (edges : List Assumption) (ys : List ℕ) (i j : ℕ) (w : ℤ) → IsSolution n edges ys → (pos (get_or ys i 0) -ℤ pos (get_or ys j 0)) ≤ℤ w
+    → IsSolution n (more edges i j w) ys
+solves_more n edges ys i j w s h = record { long = s.long; meets = meets_more (integers ys) edges (assumption i j w) s.meets h; zero = s.zero; small = s.small }
+
+pub pressed_solution : (n : ℕ) (edges : List Assumption) (a : Assumption) (ys zs : List ℕ) → length ys ≡ n → length zs ≡ n → AreNear n edges → IsNear n a
+    → MeetsAll (integers ys) (edges ++ a ∷ [])
+    → (k : ℕ) × (k < length ys) × (get_or zs k 0 ≡ 0) → ((k : ℕ) → k < length ys → get_or zs k 0 ≤ 63000063)
+    → ((edges : List Assumption) → AreNear (length ys) edges → MeetsAll (integers ys) edges → MeetsAll (integers zs) edges) → IsSolution n (edges ++ a ∷ []) zs
+pressed_solution n edges a ys zs long same near new met low small keeps = record {
+  long = same;
+  meets = keeps (edges ++ a ∷ []) (subst (λ (n : ℕ). AreNear n (edges ++ a ∷ [])) (sym long) (near_more n edges a near new)) met;
+  zero = (low.0, (let h = low.1 in omega (arith, h, long)), low.2);
+  small = λ k h. small k (omega (arith, h, long));
+}
+
+-- a chain of one number, and then others
+pub chain_with : (none one all : List ℕ) (k : ℕ) (rest : List ℕ) → none ≡ [] → one ≡ none ++ k ∷ [] → all ≡ one ++ rest → all ≡ k ∷ rest
+chain_with none one all k rest p q r = r ∙ ap (λ one. one ++ rest) (q ∙ ap (λ none. none ++ k ∷ []) p)
+
+pub chain_is : (none all rest : List ℕ) → none ≡ [] → all ≡ none ++ rest → all ≡ rest
+chain_is none all rest p r = r ∙ ap (λ none. none ++ rest) p
+
+pub if_none : {A : Type 0} {P : Type 0} (o : Option A) → o ≡ None → IfNone o P → P
+if_none {A} {P} o q h = subst (λ (o : Option A). IfNone o P) q h
+
+pub searched : (n : ℕ) (edges : List Assumption) (ys : List ℕ) (s : Search) (ds vs ts : List ℕ) (target limit : ℕ)
+    → s.distances.items ≡ ds → s.vias.items ≡ vs → s.turns.items ≡ ts → length ds ≡ n → length vs ≡ n → length ts ≡ n
+    → IsFound n edges (of ys) (of ds) target limit
+    → ((l : ℕ) → l < n → (get_or ts l 0 < n) ⊎ (limit ≤ get_or ds l 0))
+    → (turn : ℕ) × ((k : ℕ) × IsRunning n edges (of ys) (of ds) (of vs) (of ts) turn target limit k (length edges))
+    → IsSearched n edges ys s target limit
+searched n edges ys s ds vs ts target limit p q r long_d long_v long_t found settled running = record {
+  sized = record { distances = ap length p ∙ long_d; vias = ap length q ∙ long_v; turns = ap length r ∙ long_t };
+  found = subst (λ ds. IsFound n edges (of ys) (of ds) target limit) (sym p) found;
+  settled = subst (λ ds. (l : ℕ) → l < n → (get_or s.turns.items l 0 < n) ⊎ (limit ≤ get_or ds l 0)) (sym p)
+      (subst (λ ts. (l : ℕ) → l < n → (get_or ts l 0 < n) ⊎ (limit ≤ get_or ds l 0)) (sym r) settled);
+  running = (
+    running.0,
+    (
+      running.1.0,
+      subst (λ ds. IsRunning n edges (of ys) (of ds) (of s.vias.items) (of s.turns.items) running.0 target limit running.1.0 (length edges)) (sym p)
+          (subst (λ vs. IsRunning n edges (of ys) (of ds) (of vs) (of s.turns.items) running.0 target limit running.1.0 (length edges)) (sym q)
+          (subst (λ ts. IsRunning n edges (of ys) (of ds) (of vs) (of ts) running.0 target limit running.1.0 (length edges)) (sym r) running.1.1)),
+    ),
+  );
+}

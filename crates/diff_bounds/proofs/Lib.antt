@@ -1,0 +1,9 @@
+pub mod Gaps
+pub mod Running
+pub mod Ending
+pub mod Least
+pub mod Unbounded
+pub mod Steps
+pub mod Kept
+pub mod Answering
+pub mod Cycles

@@ -1,0 +1,10 @@
+use Rattle.std.proofs.Common.{◌≡◌, ◌≤◌, ◌<◌, ℕ, get_or}
+use Rattle.diff_bounds.specs.Pressing.{pressed}
+use Rattle.diff_bounds.proofs.pressing.lower_above.Given as goal
+
+abbrev pub invariant-loop-number : goal.invariant-loop-number
+invariant-loop-number l =
+    record {
+      done : (k : ℕ) → k < l.number-index → get_or l.numbers k 0 ≡ pressed l.floor l.by (get_or l.fn.numbers k 0);
+      rest : (k : ℕ) → l.number-index ≤ k → get_or l.numbers k 0 ≡ get_or l.fn.numbers k 0;
+    }

@@ -1,0 +1,4 @@
+pub mod Bounds
+pub mod Verdict
+pub mod Pressing
+pub mod Search

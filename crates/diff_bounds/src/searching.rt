@@ -1,0 +1,214 @@
+ghost use Rattle.std.specs.Prelude.{◌≡◌, ◌≤◌, ◌<◌, ◌+◌, ◌⊎◌, ◌≤ℤ◌, ◌-ℤ◌, ◌+ℤ◌, pos, ℕ, length, get_or, IfSome, IfNone, IfOk, List};
+ghost use Rattle.refutation.specs.Path.{Meets, at};
+ghost use Rattle.diff_bounds.specs.Search.{raised, of, AreMet, IsFound, IsRunning, IsRelaxed, IsSized, IsBounds, IsSearched};
+
+use crate::search::Search;
+use refutation::Assumption;
+use rl_time::NoMemory;
+use std::alloc::Global;
+
+/// The nearest input that is not settled and is below the limit.
+fn nearest(distances: &[u64], turns: &[u32], n: u32, limit: u64) -> Option<u32>
+    requires distances { length distances.now ≡ n }
+    requires turns { length turns.now ≡ n }
+    ensures there { IfSome result (λ k. k < n) }
+    ensures unset { IfSome result (λ k. n ≤ get_or turns.now k 0) }
+    ensures below { IfSome result (λ k. get_or distances.now k 0 < limit) }
+    ensures nearest { IfSome result (λ k. (l : ℕ) → l < n → (get_or turns.now l 0 < n) ⊎ (get_or distances.now k 0 ≤ get_or distances.now l 0)) }
+    ensures none { IfNone result ((l : ℕ) → l < n → (get_or turns.now l 0 < n) ⊎ (limit ≤ get_or distances.now l 0)) }
+{
+    let mut found = None;
+    let mut best = limit;
+    for k in 0..n {
+        let turn = turns[k as usize];
+        let distance = distances[k as usize];
+        if turn >= n {
+            if distance < best {
+                best = distance;
+                found = Some(k);
+            }
+        }
+    }
+    found
+}
+
+/// Writes a number at a place.
+fn put_turn(turns: &mut [u32], k: u32, turn: u32)
+    requires there { k < length turns.now }
+    ensures here { get_or turns.new k 0 ≡ turn }
+    ensures others { (l : ℕ) → (l ≡ k) ⊎ (get_or turns.new l 0 ≡ get_or turns.old l 0) }
+{
+    turns[k as usize] = turn;
+}
+
+/// Writes a number at a place.
+fn put_distance(distances: &mut [u64], k: u32, distance: u64)
+    requires there { k < length distances.now }
+    ensures here { get_or distances.new k 0 ≡ distance }
+    ensures others { (l : ℕ) → (l ≡ k) ⊎ (get_or distances.new l 0 ≡ get_or distances.old l 0) }
+{
+    distances[k as usize] = distance;
+}
+
+/// How far the beginning of an edge need be raised for the sake of its end.
+fn reach(edge: Assumption, kept: &[u64], distances: &[u64]) -> u64
+    requires from { edge.from < length kept.now }
+    requires to { edge.to < length kept.now }
+    requires long { length distances.now ≡ length kept.now }
+    requires met { (pos (get_or kept.now edge.from 0) -ℤ pos (get_or kept.now edge.to 0)) ≤ℤ edge.bound }
+    requires near { edge.bound ≤ℤ pos 1000001 }
+    requires small { (k : ℕ) → k < length kept.now → get_or kept.now k 0 ≤ 4000000000 }
+    requires room { (k : ℕ) → k < length kept.now → get_or distances.now k 0 ≤ 4000000000 }
+    ensures { (pos (get_or kept.now edge.from 0) +ℤ pos result) ≡ (edge.bound +ℤ (pos (get_or kept.now edge.to 0) +ℤ pos (get_or distances.now edge.to 0))) }
+{
+    let start = kept[edge.from as usize] as i64;
+    let end = kept[edge.to as usize] as i64;
+    let distance = distances[edge.to as usize] as i64;
+    (end + distance + edge.bound - start) as u64
+}
+
+/// Looks at one edge: lowers its beginning to what it allows.
+fn relax(edge: Assumption, number: u32, kept: &[u64], distances: &mut [u64], vias: &mut [u32])
+    requires from { edge.from < length kept.now }
+    requires to { edge.to < length kept.now }
+    requires long { length distances.now ≡ length kept.now }
+    requires vias { length vias.now ≡ length kept.now }
+    requires met { (pos (get_or kept.now edge.from 0) -ℤ pos (get_or kept.now edge.to 0)) ≤ℤ edge.bound }
+    requires near { edge.bound ≤ℤ pos 1000001 }
+    requires small { (k : ℕ) → k < length kept.now → get_or kept.now k 0 ≤ 4000000000 }
+    requires room { (k : ℕ) → k < length kept.now → get_or distances.now k 0 ≤ 4000000000 }
+    ensures { IsRelaxed (of kept.now) distances.old vias.old distances.new vias.new edge number }
+{
+    let reached = reach(edge, kept, distances);
+    if reached < distances[edge.from as usize] {
+        put_distance(distances, edge.from, reached);
+        put_turn(vias, edge.from, number);
+    }
+}
+
+/// Looks at each edge that leads to k.
+fn relax_into(
+    edges: &[Assumption],
+    k: u32,
+    kept: &[u64],
+    distances: &mut [u64],
+    vias: &mut [u32],
+    turns: &[u32],
+)
+    requires few { length edges.now ≤ 65536 }
+    requires long { length distances.now ≡ length kept.now }
+    requires vias { length vias.now ≡ length kept.now }
+    requires met { AreMet (length kept.now) edges.now (of kept.now) }
+    requires small { (k : ℕ) → k < length kept.now → get_or kept.now k 0 ≤ 4000000000 }
+    requires room { (k : ℕ) → k < length kept.now → get_or distances.now k 0 ≤ 4000000000 }
+    requires settled { get_or turns.now k 0 < length kept.now }
+    ensures { (turn target limit : ℕ) → IsRunning (length kept.now) edges.now (of kept.now) (of distances.old) (of vias.old) (of turns.now) turn target limit k 0
+        → IsRunning (length kept.now) edges.now (of kept.now) (of distances.new) (of vias.new) (of turns.now) turn target limit k (length edges.now) }
+{
+    let _ = turns;
+    let mut number: u32 = 0;
+    for edge in edges {
+        if edge.to == k {
+            relax(*edge, number, kept, distances, vias);
+        }
+        number += 1;
+    }
+}
+
+/// Writes the same number everywhere.
+fn fill_distances(distances: &mut [u64], limit: u64)
+    ensures { (l : ℕ) → l < length distances.old → get_or distances.new l 0 ≡ limit }
+{
+    for distance in distances.iter_mut() {
+        *distance = limit;
+    }
+}
+
+/// Writes the same number everywhere.
+fn fill_turns(turns: &mut [u32], n: u32)
+    ensures { (l : ℕ) → l < length turns.old → get_or turns.new l 0 ≡ n }
+{
+    for turn in turns.iter_mut() {
+        *turn = n;
+    }
+}
+
+/// Settles the inputs one after another, the nearest first, until none below the limit is left.
+fn settle_all(
+    edges: &[Assumption],
+    kept: &[u64],
+    target: u32,
+    limit: u64,
+    n: u32,
+    distances: &mut [u64],
+    vias: &mut [u32],
+    turns: &mut [u32],
+)
+    requires distances { length distances.now ≡ n }
+    requires vias { length vias.now ≡ n }
+    requires turns { length turns.now ≡ n }
+    requires bounds { IsBounds n edges.now kept.now }
+    requires target { target < n }
+    requires limit { limit ≤ 4000000000 }
+    ensures found { IsFound n edges.now (of kept.now) (of distances.new) target limit }
+    ensures settled { (l : ℕ) → l < n → (get_or turns.new l 0 < n) ⊎ (limit ≤ get_or distances.new l 0) }
+    ensures running { (turn : ℕ) × ((k : ℕ) × IsRunning n edges.now (of kept.now) (of distances.new) (of vias.new) (of turns.new) turn target limit k (length edges.now)) }
+{
+    fill_distances(distances, limit);
+    fill_turns(turns, n);
+    put_distance(distances, target, 0);
+    let mut turn: u32 = 0;
+    while let Some(k) = nearest(distances, turns, n, limit) {
+        put_turn(turns, k, turn);
+        relax_into(edges, k, kept, distances, vias, turns);
+        turn += 1;
+    }
+}
+
+impl Search {
+    /// Room for a search over n inputs.
+    pub(crate) fn new(alloc: Global, n: u32) -> Result<Search, NoMemory>
+        ensures { IfOk result (λ search. IsSized n search) }
+    {
+        Ok(Search {
+            distances: vec![in alloc; 0; n as usize]?,
+            vias: vec![in alloc; 0; n as usize]?,
+            turns: vec![in alloc; 0; n as usize]?,
+        })
+    }
+
+    /// How far the number of input k has to be raised.
+    pub(crate) fn distance(&self, k: u32) -> u64
+        requires { k < length self.now.distances.items }
+        ensures { result ≡ get_or self.now.distances.items k 0 }
+    {
+        self.distances.as_slice()[k as usize]
+    }
+
+    /// Finds how far each input's kept number is to be raised for the sake of the target's, up to the limit.
+    pub(crate) fn run(
+        &mut self,
+        edges: &[Assumption],
+        kept: &[u64],
+        target: u32,
+        limit: u64,
+        n: u32,
+    )
+        requires sized { IsSized n self.old }
+        requires bounds { IsBounds n edges.now kept.now }
+        requires target { target < n }
+        requires limit { limit ≤ 4000000000 }
+        ensures { IsSearched n edges.now kept.now self.new target limit }
+    {
+        settle_all(
+            edges,
+            kept,
+            target,
+            limit,
+            n,
+            &mut self.distances,
+            &mut self.vias,
+            &mut self.turns,
+        );
+    }
+}
