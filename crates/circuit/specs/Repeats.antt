@@ -60,8 +60,29 @@ abbrev pub NoGateTwice : Circuit → Type 0
 NoGateTwice m = (v w : ℕ) (kind : Kind) (p q : Logic) →
     IsGate m v kind p q → IsGate m w kind p q → v ≡ w
 
--- each wire is a gate, each output is a copy of an operand, and no gate is there twice
-pub record HasNoRepeatedWire (m : Circuit) : Type 0 where
+-- register h holds the level of a latch
+pub record HoldsLatch (m : Circuit) (h : ℕ) : Type 0 where
+  pub wire : ℕ
+  pub left_line : Logic
+  pub right_line : Logic
+  pub left : IsTrue (is_operand left_line)
+  pub right : IsTrue (is_operand right_line)
+  pub latch : IsLatch m wire h left_line right_line
+
+-- register h holds no latch, and its bit 0 takes this expression
+pub record IsDelayRegister (m : Circuit) (h : ℕ) (next : Logic) : Type 0 where
+  pub register : Register
+  pub there : slice_get m.regs h ≡ Some register
+  pub next_is : register.next ≡ next
+  pub no_latch : HoldsLatch m h → ⊥
+
+-- no two delay registers take the same expression
+abbrev pub NoDelayTwice : Circuit → Type 0
+NoDelayTwice m = (h k : ℕ) (next : Logic) → IsDelayRegister m h next → IsDelayRegister m k next → h ≡ k
+
+-- each wire is a gate, each output is a copy of an operand, and no gate and no delay register is there twice
+pub record HasNoRepeatedGate (m : Circuit) : Type 0 where
   pub gates : EachWireHasGate m
   pub outputs : EachOutputIsOperand m
   pub wires : NoGateTwice m
+  pub delays : NoDelayTwice m

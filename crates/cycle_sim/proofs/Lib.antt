@@ -1,6 +1,7 @@
 pub mod Edges
 pub mod Histories
 pub mod Grown
+pub mod Stretches
 pub mod Bits
 pub mod Seen
 pub mod Activated
@@ -10,3 +11,5 @@ pub mod Recording
 pub mod Quiet
 pub mod Words
 pub mod Counting
+pub mod Passes
+pub mod Filling

@@ -1,5 +1,5 @@
 -- The levels of a module's outputs over a history, as texts of digits.
-use Rattle.std.specs.Prelude.{ℕ, ◌+◌, Bool, true, false, List, [], ◌∷◌, ◌++◌, map, slice_index_or, Option}
+use Rattle.std.specs.Prelude.{ℕ, ◌+◌, Bool, true, false, List, [], ◌∷◌, ◌++◌, map, replicate, slice_index_or, Option}
 use Rattle.std.specs.List.{range_with_len}
 use Rattle.circuit.specs.Meaning.{State}
 use Rattle.cycle_sim.specs.Standing.{output_level}
@@ -17,7 +17,7 @@ output_digits states out = map (λ s. digit (slice_index_or s.outs out false)) s
 abbrev pub output_rows : ℕ → List State → List (List ℕ)
 output_rows outputs states = map (output_digits states) (range_with_len 0 outputs)
 
--- the rows of the outputs from this one on, each with one more digit: its output's level in the cycle
-abbrev pub with_digits : Option State → ℕ → List (List ℕ) → List (List ℕ)
-with_digits state out [] = []
-with_digits state out (row ∷ rows) = (row ++ digit (output_level state out) ∷ []) ∷ with_digits state (out + 1) rows
+-- the rows of the outputs from this one on, each with its output's level in the cycle as so many digits more
+abbrev pub with_digits : Option State → ℕ → ℕ → List (List ℕ) → List (List ℕ)
+with_digits state count out [] = []
+with_digits state count out (row ∷ rows) = (row ++ replicate count (digit (output_level state out))) ∷ with_digits state count (out + 1) rows

@@ -1,5 +1,5 @@
 -- What the levels of a module are as lists, and one clock edge on them.
-use Rattle.std.specs.Prelude.{◌≡◌, ◌<◌, Bool, List, ◌∷◌, length, map, take}
+use Rattle.std.specs.Prelude.{◌≡◌, ◌<◌, Bool, List, [], ◌∷◌, length, map, take}
 use Rattle.circuit.specs.declared.bit.Target.{Target}
 use Rattle.circuit.specs.declared.bit.Target.TheVariants as target
 use Rattle.circuit.specs.Circuit.{Register, Circuit}
@@ -23,3 +23,9 @@ HasPlace s (target.Out o) = o < length s.outs
 -- a row of bits, each of which takes the level before it, and bit 0 the first level
 abbrev pub shifted : Bool → List Bool → List Bool
 shifted first row = take (length row) (first ∷ row)
+
+-- rows that take these first levels
+abbrev pub all_shifted : List Bool → List (List Bool) → List (List Bool)
+all_shifted [] rows = rows
+all_shifted (first ∷ firsts) [] = []
+all_shifted (first ∷ firsts) (row ∷ rows) = shifted first row ∷ all_shifted firsts rows

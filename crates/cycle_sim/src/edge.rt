@@ -10,10 +10,11 @@ ghost use Rattle.cycle_sim.specs.Shifts.{AreSeen, StaysSame};
 
 use crate::levels::Levels;
 use crate::marks::Marks;
+use crate::pass::edge_plainly;
 use crate::readers::Readers;
 use circuit::Module;
 
-// Marks the items that name a bit of a register that a shift changes, and the register if there is one.
+// Marks the items that name a bit of a register that a shift changes, and the register if there is one. Answers whether there is one.
 fn mark_changes(
     m: &Module,
     readers: &Readers,
@@ -21,7 +22,7 @@ fn mark_changes(
     marks: &mut Marks,
     reg: usize,
     first: bool,
-)
+) -> bool
     requires a_register { reg < length m.now.regs }
     requires rows { length levels.now.regs ≡ length m.now.regs }
     requires taps { HasTaps readers.now.lists.items readers.now.tapped }
@@ -37,15 +38,17 @@ fn mark_changes(
     let base = m.inputs().len() + m.wires().len() + readers.start(reg) as usize;
     let own = m.assigns().len() + reg;
     let mut k = levels.change(reg, first, 0);
+    let changes = k < width;
     while k < width {
         marks.add(own);
         readers.mark_all(base + k, marks);
         let tap = readers.next_tap(base + k + 1);
         k = levels.change(reg, first, tap - base);
     }
+    changes
 }
 
-// A register takes this level, and the items that see a change are marked.
+// A register takes this level, and the items that see a change are marked. Answers whether it changes.
 fn shift_register(
     m: &Module,
     readers: &Readers,
@@ -53,7 +56,7 @@ fn shift_register(
     marks: &mut Marks,
     reg: usize,
     first: bool,
-)
+) -> bool
     requires a_register { reg < length m.now.regs }
     requires rows { length levels.old.regs ≡ length m.now.regs }
     requires taps { HasTaps readers.now.lists.items readers.now.tapped }
@@ -66,8 +69,9 @@ fn shift_register(
     ensures quiet { let row = slice_index_or levels.old.regs reg [] in
         IsUnmarked marks.new (length m.now.assigns + reg) → shifted first row ≡ replicate (length row) first }
 {
-    mark_changes(m, readers, levels, marks, reg, first);
+    let changes = mark_changes(m, readers, levels, marks, reg, first);
     levels.shift(reg, first);
+    changes
 }
 
 // Moves the marks of registers into another set, with the level of the `next` of each.
@@ -104,16 +108,15 @@ fn take_firsts(
     }
 }
 
-/// A clock edge. Only marked registers can change. `moving` is an empty set of registers, and `firsts` room for a
-/// level of each.
-pub fn clock_edge(
+// A clock edge. Only marked registers can change. Answers how many do.
+fn edge_marked(
     m: &Module,
     readers: &Readers,
     levels: &mut Levels,
     marks: &mut Marks,
     moving: &mut Marks,
     firsts: &mut [bool],
-)
+) -> usize
     requires levels { HasAllLevels m.now levels.old }
     requires taps { HasTaps readers.now.lists.items readers.now.tapped }
     requires readers { AreReaders m.now readers.now.starts.items readers.now.lists.items }
@@ -130,10 +133,48 @@ pub fn clock_edge(
 {
     take_firsts(m, levels, marks, moving, firsts);
     let count = m.regs().len();
+    let mut changed = 0;
     let mut reg = moving.first(0);
     while reg < count {
         moving.clear(reg);
-        shift_register(m, readers, levels, marks, reg, firsts[reg]);
+        if shift_register(m, readers, levels, marks, reg, firsts[reg]) {
+            changed += 1;
+        }
         reg = moving.first(reg + 1);
     }
+    changed
+}
+
+/// A clock edge. Only marked registers can change. `moving` is an empty set of registers, and `firsts` room for a
+/// level of each. `busy` is whether many registers changed at the edge before: marks cost more than a plain edge then.
+pub fn clock_edge(
+    m: &Module,
+    readers: &Readers,
+    levels: &mut Levels,
+    marks: &mut Marks,
+    moving: &mut Marks,
+    firsts: &mut [bool],
+    busy: bool,
+) -> bool
+    requires levels { HasAllLevels m.now levels.old }
+    requires taps { HasTaps readers.now.lists.items readers.now.tapped }
+    requires readers { AreReaders m.now readers.now.starts.items readers.now.lists.items }
+    requires room { length m.now.assigns + length m.now.regs ≤ 64 * length marks.old }
+    requires moving_room { length m.now.regs ≤ 64 * length moving.old }
+    requires firsts { length firsts.old ≡ length m.now.regs }
+    requires none { (r : ℕ) → r < length m.now.regs → IsUnmarked moving.old r }
+    requires up_to_date { IsUpToDate m.now levels.old marks.old }
+    ensures state { levels.new ≡ record levels.old { regs = rows_after levels.old m.now.regs levels.old.regs } }
+    ensures up_to_date { IsUpToDate m.now levels.new marks.new }
+    ensures room { length marks.new ≡ length marks.old }
+    ensures moving_room { length moving.new ≡ length moving.old }
+    ensures none { (r : ℕ) → r < length m.now.regs → IsUnmarked moving.new r }
+{
+    let changed = if busy {
+        edge_plainly(m, levels, marks, firsts)
+    } else {
+        edge_marked(m, readers, levels, marks, moving, firsts)
+    };
+    let _room = marks.room();
+    changed > (m.assigns().len() + m.regs().len()) / 4
 }

@@ -147,6 +147,13 @@ impl Levels {
         self.regs[reg].change(first, from)
     }
 
+    /// Whether a shift changes a bit of a register, if bit 0 takes this level.
+    pub fn changes(&self, reg: usize, first: bool) -> bool
+        requires { reg < length self.now.regs }
+    {
+        self.change(reg, first, 0) < self.width(reg) as usize
+    }
+
     /// A register takes this level.
     pub fn shift(&mut self, reg: usize, first: bool)
         requires { reg < length self.old.regs }

@@ -8,6 +8,7 @@ mod inputs;
 pub mod laws;
 mod levels;
 mod marks;
+mod pass;
 mod readers;
 mod readers_of;
 mod row;

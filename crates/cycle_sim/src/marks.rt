@@ -1,6 +1,6 @@
 ghost use Rattle.std.specs.Prelude.{◌≡◌, ◌≢◌, ◌<◌, ◌≤◌, ◌+◌, ◌*◌, ◌^◌, ℕ, [], length, replicate, IfOk};
 ghost use Rattle.std.specs.Int.{bit_at};
-ghost use Rattle.cycle_sim.specs.Marked.{mark_at, IsMarked, IsUnmarked, HasMore, NoneFrom, NoMoreUpTo, HasAll, HasAllAbove};
+ghost use Rattle.cycle_sim.specs.Marked.{mark_at, IsMarked, IsUnmarked, HasMore, NoneFrom, NoMoreUpTo, HasAll, HasAllAbove, IsFilled};
 
 use rl_time::NoMemory;
 use std::alloc::Global;
@@ -117,6 +117,41 @@ impl Marks {
             }
         }
         64 * self.words.len()
+    }
+
+    /// How many numbers are in the words of the set that have the numbers below this one.
+    pub fn count_to(&self, end: usize) -> usize {
+        let mut count: usize = 0;
+        for word in self.words.iter().take(end / 64 + 1) {
+            count = count.saturating_add(word.count_ones() as usize);
+        }
+        count
+    }
+
+    /// Removes the numbers below this one, and adds all others that have room.
+    pub fn fill_from(&mut self, from: usize)
+        ensures room { length self.new ≡ length self.old }
+        ensures below { (k : ℕ) → k < from → IsUnmarked self.new k }
+        ensures above { (k : ℕ) → from ≤ k → k < 64 * length self.old → IsMarked self.new k }
+    {
+        for place in 0..self.words.len() {
+            self.words[place] = ones_from(place, from);
+        }
+    }
+}
+
+// The word at this place of the set of all numbers from one on.
+fn ones_from(place: usize, from: usize) -> u64
+    requires { place ≤ 2 ^ 32 }
+    ensures { IsFilled place from result }
+{
+    let first = 64 * place;
+    if from <= first {
+        u64::MAX
+    } else if from - first < 64 {
+        u64::MAX << (from - first)
+    } else {
+        0
     }
 }
 

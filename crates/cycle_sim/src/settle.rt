@@ -8,6 +8,7 @@ ghost use Rattle.cycle_sim.specs.UpToDate.{IsUpToDate, IsSeen};
 
 use crate::levels::Levels;
 use crate::marks::Marks;
+use crate::pass::settle_plainly;
 use crate::readers::Readers;
 use circuit::{Module, Target};
 
@@ -61,7 +62,39 @@ fn activate(m: &Module, readers: &Readers, levels: &mut Levels, marks: &mut Mark
     mark_change(m, readers, marks, target, k, before, level);
 }
 
-/// Gives each wire and output its expression's level, where only marked assigns may lack it.
+// Gives the targets of so many marked assigns their expressions' levels, in order. Answers the first assign that is
+// still marked, or a number past the assigns.
+fn settle_marked(
+    m: &Module,
+    readers: &Readers,
+    levels: &mut Levels,
+    marks: &mut Marks,
+    most: usize,
+) -> usize
+    requires levels { HasLevels m.now levels.old }
+    requires readers { AreReaders m.now readers.now.starts.items readers.now.lists.items }
+    requires room { length m.now.assigns + length m.now.regs ≤ 64 * length marks.old }
+    requires up_to_date { IsUpToDate m.now levels.old marks.old }
+    ensures none { NoneFrom marks.new 0 result }
+    ensures up_to_date { IsUpToDate m.now levels.new marks.new }
+    ensures levels { HasLevels m.now levels.new }
+    ensures inputs { levels.new.inputs ≡ levels.old.inputs }
+    ensures regs { levels.new.regs ≡ levels.old.regs }
+    ensures room { length marks.new ≡ length marks.old }
+{
+    let count = m.assigns().len();
+    let mut left = most;
+    let mut k = marks.first(0);
+    while k < count && left > 0 {
+        activate(m, readers, levels, marks, k);
+        left -= 1;
+        k = marks.first(k + 1);
+    }
+    k
+}
+
+/// Gives each wire and output its expression's level, where only marked assigns may lack it. Marks cost more than a
+/// plain pass where many assigns are marked, or come to be, so then a plain pass is made.
 pub fn settle(m: &Module, readers: &Readers, levels: &mut Levels, marks: &mut Marks)
     requires levels { HasLevels m.now levels.old }
     requires readers { AreReaders m.now readers.now.starts.items readers.now.lists.items }
@@ -74,9 +107,13 @@ pub fn settle(m: &Module, readers: &Readers, levels: &mut Levels, marks: &mut Ma
     ensures room { length marks.new ≡ length marks.old }
 {
     let count = m.assigns().len();
-    let mut k = marks.first(0);
-    while k < count {
-        activate(m, readers, levels, marks, k);
-        k = marks.first(k + 1);
+    let most = if marks.count_to(count) > count / 4 {
+        0
+    } else {
+        count / 8 + 1
+    };
+    let next = settle_marked(m, readers, levels, marks, most);
+    if next < count {
+        settle_plainly(m, levels, marks);
     }
 }

@@ -18,14 +18,15 @@ use std::marker::Model;
 
 /// A simulation of a module. It is either not yet started, or in a cycle with all levels settled.
 ///
-/// `started` is whether a step was made, and `quiet` that the next one changes nothing if the inputs don't. `marks` are the
-/// assigns and registers that may not be up to date.
+/// `started` is whether a step was made, and `quiet` that the next one changes nothing if the inputs don't. `busy` is whether many
+/// registers changed at the last clock edge. `marks` are the assigns and registers that may not be up to date.
 /// `moving` and `firsts` are room for the registers that change at a clock edge, and what they take.
 #[derive(Drop)]
 pub struct Sim<'a> {
     module: &'a Module,
     started: bool,
     quiet: bool,
+    busy: bool,
     levels: Levels,
     readers: Readers,
     marks: Marks,
@@ -61,6 +62,7 @@ impl<'a> Sim<'a> {
             module: m,
             started: false,
             quiet: false,
+            busy: false,
             levels: Levels::low(alloc, m)?,
             readers: readers_of(alloc, m)?,
             marks: Marks::all(alloc, assigns + regs)?,
@@ -91,13 +93,14 @@ impl<'a> Sim<'a> {
     {
         let m = self.module;
         if self.started {
-            clock_edge(
+            self.busy = clock_edge(
                 m,
                 &self.readers,
                 &mut self.levels,
                 &mut self.marks,
                 &mut self.moving,
                 self.firsts.as_mut_slice(),
+                self.busy,
             );
         }
         set_inputs(m, &self.readers, &mut self.levels, &mut self.marks, inputs);

@@ -1,4 +1,4 @@
--- Time against level, for any module in whose registers the taps of the delays and the held levels of the latches stand.
+-- Time against level, for any module in which each delay and each latch has its register.
 use Rattle.std.proofs.Common.{◌≡◌, ℕ, zero, suc, ◌+◌, ◌-◌, ◌<◌, ◌≤◌, Bool, false, List, [], ◌∷◌, length, get_or, map, replicate, refl, ap, ◌∙◌, sym, subst, inl, inr, arith, Some}
 use Rattle.std.specs.Prelude.{slice_get, not, ◌&&◌, ◌||◌}
 use Rattle.std.proofs.Math.ListN.{get_or-map}
@@ -19,7 +19,7 @@ use Rattle.gate_lower.specs.declared.gates.Delay.{Delay}
 use Rattle.gate_lower.specs.Netlist.{Output, Netlist}
 use Rattle.gate_lower.specs.Rules.{IsLine, HasLines, IsNetlist}
 use Rattle.gate_lower.specs.Timing.{line_time, gate_time, IsTiming, IsRightAt, TimeIsLevel}
-use Rattle.gate_lower.specs.Plain.{operand, gate_logic}
+use Rattle.gate_lower.specs.Tapped.{operand, gate_logic, register_name, delay_register}
 use Rattle.gate_lower.proofs.Risen.{risen_min, risen_max, risen_lt, risen_inc-suc, risen_inc-start, time_inc-zero}
 
 pub some_is : {A : Type 0} (x y : A) → Some x ≡ Some y → x ≡ y
@@ -53,26 +53,27 @@ row_bit_start (p ∷ ps) zero k = elim (cases_lt k p.width) [
 ]
 row_bit_start (p ∷ ps) (suc r) k = row_bit_start ps r k
 
+-- the register of latch k takes its wire
+abbrev pub latched : ℕ → ℕ → Register
+latched h k = record { name = register_name h; width = 1; next = b.Wire k }
+
 -- the registers of s' are those after an edge from s
 pub record Edge (m : Circuit) (s s' : State) : Type 0 where
   pub many : length s.regs ≡ length m.regs
   pub after : s'.regs ≡ rows_after s m.regs s.regs
 
--- where taps and latches stand in a module of the gates, and what they take
-pub record Realises (g : Netlist) (m : Circuit) (tap : ℕ → ℕ → Logic) (held : ℕ → Logic) : Type 0 where
-  pub wire : (k : ℕ) (q : Gate) → slice_get g.gates k ≡ Some q → (s : State) → IsSettled m s → get_or s.wires k false ≡ level s (gate_logic tap (held k) q)
-  pub out : (o : ℕ) (l : Output) → slice_get g.outputs o ≡ Some l → (s : State) → IsSettled m s → get_or s.outs o false ≡ level s (operand tap l.line)
-  pub tap_start : (n c : ℕ) (d : Delay) → slice_get g.delays n ≡ Some d → c < d.width → (s : State) → s.regs ≡ map row_at_start m.regs → level s (tap n (suc c)) ≡ false
-  pub tap_first : (n : ℕ) (d : Delay) → slice_get g.delays n ≡ Some d → 0 < d.width → (s s' : State) → Edge m s s' → level s' (tap n 1) ≡ level s (operand tap d.from)
-  pub tap_next : (n c : ℕ) (d : Delay) → slice_get g.delays n ≡ Some d → suc c < d.width → (s s' : State) → Edge m s s' → level s' (tap n (suc (suc c))) ≡ level s (tap n (suc c))
-  pub held_start : (k : ℕ) (p q : Line) → slice_get g.gates k ≡ Some (gate.Latch p q) → (s : State) → s.regs ≡ map row_at_start m.regs → level s (held k) ≡ false
-  pub held_next : (k : ℕ) (p q : Line) → slice_get g.gates k ≡ Some (gate.Latch p q) → (s s' : State) → Edge m s s' → level s' (held k) ≡ level s (b.Wire k)
+-- what is where in a module of the gates: the register of latch k has the number `held k`
+pub record Realises (g : Netlist) (m : Circuit) (held : ℕ → ℕ) : Type 0 where
+  pub wire : (k : ℕ) (q : Gate) → slice_get g.gates k ≡ Some q → (s : State) → IsSettled m s → get_or s.wires k false ≡ level s (gate_logic (held k) q)
+  pub out : (o : ℕ) (l : Output) → slice_get g.outputs o ≡ Some l → (s : State) → IsSettled m s → get_or s.outs o false ≡ level s (operand l.line)
+  pub delay : (n : ℕ) (d : Delay) → slice_get g.delays n ≡ Some d → slice_get m.regs n ≡ Some (delay_register n d)
+  pub latch : (k : ℕ) (p q : Line) → slice_get g.gates k ≡ Some (gate.Latch p q) → slice_get m.regs (held k) ≡ Some (latched (held k) k)
 
-module _ (g : Netlist) (ok : IsNetlist g) (m : Circuit) (tap : ℕ → ℕ → Logic) (held : ℕ → Logic) (real : Realises g m tap held) (x : List Time) (gt dt : ℕ → Time) (tm : IsTiming g x gt dt) where
+module _ (g : Netlist) (ok : IsNetlist g) (m : Circuit) (held : ℕ → ℕ) (real : Realises g m held) (x : List Time) (gt dt : ℕ → Time) (tm : IsTiming g x gt dt) where
   record RegistersRight (t : ℕ) (s : State) : Type 0 where
     many : length s.regs ≡ length m.regs
-    delays : (n c : ℕ) (d : Delay) → slice_get g.delays n ≡ Some d → c < d.width → level s (tap n (suc c)) ≡ has_risen (time_inc (dt n) (suc c)) t
-    latches : (k : ℕ) (p q : Line) → slice_get g.gates k ≡ Some (gate.Latch p q) → level s (held k) ≡ has_risen (time_inc (gt k) 1) t
+    delays : (n c : ℕ) (d : Delay) → slice_get g.delays n ≡ Some d → c < d.width → level s (b.Reg n c) ≡ has_risen (time_inc (dt n) (suc c)) t
+    latches : (k : ℕ) (p q : Line) → slice_get g.gates k ≡ Some (gate.Latch p q) → level s (b.Reg (held k) 0) ≡ has_risen (time_inc (gt k) 1) t
 
   -- a state of the history in cycle t
   record Good (t : ℕ) (s : State) : Type 0 where
@@ -84,34 +85,34 @@ module _ (g : Netlist) (ok : IsNetlist g) (m : Circuit) (tap : ℕ → ℕ → L
     by : (k : ℕ) → k < n → k < length g.gates → get_or s.wires k false ≡ has_risen (gt k) t
 
   module _ (t : ℕ) (s : State) (good : Good t s) where
-    line_right : (n : ℕ) → n ≤ length g.gates → WiresBelow n t s → (l : Line) → IsLine g n l → level s (operand tap l) ≡ has_risen (line_time x gt dt l) t
+    line_right : (n : ℕ) → n ≤ length g.gates → WiresBelow n t s → (l : Line) → IsLine g n l → level s (operand l) ≡ has_risen (line_time x gt dt l) t
     line_right n le w line.Low h = refl
     line_right n le w (line.Input i) h = ap (λ z. get_or z i false) good.inputs ∙ get_or-map (λ a. has_risen a t) x i Never
     line_right n le w (line.Gate j) h = w.by j h (omega arith)
     line_right n le w (line.Tap i c) h =
         let e : suc (c - 1) ≡ c = omega (arith, h.2) in
-        subst (λ z. level s (tap i z) ≡ has_risen (time_inc (dt i) z) t) e (good.regs.delays i (c - 1) h.0 h.1 (omega (arith, h.2, h.3)))
+        good.regs.delays i (c - 1) h.0 h.1 (omega (arith, h.2, h.3)) ∙ ap (λ z. has_risen (time_inc (dt i) z) t) e
 
     bit_right : (k : ℕ) (q : Gate) → k ≤ length g.gates → WiresBelow k t s → slice_get g.gates k ≡ Some q → HasLines g k q →
-        level s (gate_logic tap (held k) q) ≡ has_risen (gate_time x gt dt q) t
+        level s (gate_logic (held k) q) ≡ has_risen (gate_time x gt dt q) t
     bit_right k (gate.Or a c) le w e h =
         let ea = line_right k le w a h.0 in
         let ec = line_right k le w c h.1 in
-        (ap (λ v. v || level s (operand tap c)) ea ∙ (ap (λ v. has_risen (line_time x gt dt a) t || v) ec
+        (ap (λ v. v || level s (operand c)) ea ∙ (ap (λ v. has_risen (line_time x gt dt a) t || v) ec
         ∙ sym (risen_min (line_time x gt dt a) (line_time x gt dt c) t)))
     bit_right k (gate.And a c) le w e h =
         let ea = line_right k le w a h.0 in
         let ec = line_right k le w c h.1 in
-        (ap (λ v. v && level s (operand tap c)) ea ∙ (ap (λ v. has_risen (line_time x gt dt a) t && v) ec
+        (ap (λ v. v && level s (operand c)) ea ∙ (ap (λ v. has_risen (line_time x gt dt a) t && v) ec
         ∙ sym (risen_max (line_time x gt dt a) (line_time x gt dt c) t)))
     bit_right k (gate.Latch a c) le w e h =
         let ea = line_right k le w a h.0 in
         let ec = line_right k le w c h.1 in
         let ta = line_time x gt dt a in
         let tc = line_time x gt dt c in
-        let kept : level s (held k) ≡ has_risen (time_inc (time_lt ta tc) 1) t = good.regs.latches k a c e ∙ ap (λ z. has_risen (time_inc z 1) t) (tm.each_gate k (gate.Latch a c) e) in
-        ap (λ v. v || (level s (operand tap a) && not (level s (operand tap c)))) kept
-        ∙ (ap (λ v. has_risen (time_inc (time_lt ta tc) 1) t || (v && not (level s (operand tap c)))) ea
+        let kept : level s (b.Reg (held k) 0) ≡ has_risen (time_inc (time_lt ta tc) 1) t = good.regs.latches k a c e ∙ ap (λ z. has_risen (time_inc z 1) t) (tm.each_gate k (gate.Latch a c) e) in
+        ap (λ v. v || (level s (operand a) && not (level s (operand c)))) kept
+        ∙ (ap (λ v. has_risen (time_inc (time_lt ta tc) 1) t || (v && not (level s (operand c)))) ea
         ∙ (ap (λ v. has_risen (time_inc (time_lt ta tc) 1) t || (has_risen ta t && not v)) ec
         ∙ sym (risen_lt ta tc t)))
 
@@ -132,11 +133,16 @@ module _ (g : Netlist) (ok : IsNetlist g) (m : Circuit) (tap : ℕ → ℕ → L
       outs = λ o l e. real.out o l e s good.settled ∙ line_right (length g.gates) (omega arith) (wires_below (length g.gates)) l.line (ok.outputs o l e);
     }
 
-  tap_after : (t : ℕ) (s s' : State) → Good t s → Edge m s s' → (n c : ℕ) (d : Delay) → slice_get g.delays n ≡ Some d → c < d.width → level s' (tap n (suc c)) ≡ has_risen (time_inc (dt n) (suc c)) (suc t)
+  bit_after : (r k : ℕ) (reg : Register) → slice_get m.regs r ≡ Some reg → k < reg.width → (s s' : State) → Edge m s s' →
+      level s' (b.Reg r k) ≡ get_or (level s reg.next ∷ get_or s.regs r []) k false
+  bit_after r k reg e w s s' edge = ap (λ z. row_bit z r k) edge.after ∙ row_bit_after s m.regs s.regs r k reg e edge.many w
+
+  tap_after : (t : ℕ) (s s' : State) → Good t s → Edge m s s' → (n c : ℕ) (d : Delay) → slice_get g.delays n ≡ Some d → c < d.width → level s' (b.Reg n c) ≡ has_risen (time_inc (dt n) (suc c)) (suc t)
   tap_after t s s' good edge n zero d e w =
       let from = line_right t s good (length g.gates) (omega arith) (wires_below t s good (length g.gates)) d.from (ok.delays n d e) in
-      real.tap_first n d e w s s' edge ∙ (from ∙ (ap (λ z. has_risen z t) (sym (tm.each_delay n d e)) ∙ (ap (λ z. has_risen z t) (sym (time_inc-zero (dt n))) ∙ sym (risen_inc-suc (dt n) 0 t))))
-  tap_after t s s' good edge n (suc c) d e w = real.tap_next n c d e w s s' edge ∙ (good.regs.delays n c d e (omega arith) ∙ sym (risen_inc-suc (dt n) (suc c) t))
+      bit_after n 0 (delay_register n d) (real.delay n d e) w s s' edge ∙ (from ∙ (ap (λ z. has_risen z t) (sym (tm.each_delay n d e)) ∙ (ap (λ z. has_risen z t) (sym (time_inc-zero (dt n))) ∙ sym (risen_inc-suc (dt n) 0 t))))
+  tap_after t s s' good edge n (suc c) d e w =
+      bit_after n (suc c) (delay_register n d) (real.delay n d e) w s s' edge ∙ (good.regs.delays n c d e (omega arith) ∙ sym (risen_inc-suc (dt n) (suc c) t))
 
   regs_next : (t : ℕ) (s s' : State) → Good t s → s'.regs ≡ rows_after s m.regs s.regs → RegistersRight (suc t) s'
   regs_next t s s' good eq =
@@ -146,14 +152,14 @@ module _ (g : Netlist) (ok : IsNetlist g) (m : Circuit) (tap : ℕ → ℕ → L
         delays = λ n c d e w. tap_after t s s' good edge n c d e w;
         latches = λ k p q e.
             let w = (right_at t s good).wires k (gate.Latch p q) e in
-            real.held_next k p q e s s' edge ∙ ((w ∙ (ap (λ z. has_risen z t) (sym (time_inc-zero (gt k))) ∙ sym (risen_inc-suc (gt k) 0 t))));
+            bit_after (held k) 0 (latched (held k) k) (real.latch k p q e) (omega arith) s s' edge ∙ ((w ∙ (ap (λ z. has_risen z t) (sym (time_inc-zero (gt k))) ∙ sym (risen_inc-suc (gt k) 0 t))));
       }
 
   regs_start : (s : State) → s.regs ≡ map row_at_start m.regs → RegistersRight 0 s
   regs_start s eq = record {
     many = ap length eq ∙ length-map m.regs row_at_start;
-    delays = λ n c d e w. real.tap_start n c d e w s eq ∙ sym (risen_inc-start (dt n) c);
-    latches = λ k p q e. real.held_start k p q e s eq ∙ sym (risen_inc-start (gt k) 0);
+    delays = λ n c d e w. ap (λ z. row_bit z n c) eq ∙ (row_bit_start m.regs n c ∙ sym (risen_inc-start (dt n) c));
+    latches = λ k p q e. ap (λ z. row_bit z (held k) 0) eq ∙ (row_bit_start m.regs (held k) 0 ∙ sym (risen_inc-start (gt k) 0));
   }
 
   follows_right : (n t : ℕ) (s : State) → Good t s → (ss : List State) → Follows m s (levels_from x (suc t) n) ss →
@@ -183,5 +189,5 @@ module _ (g : Netlist) (ok : IsNetlist g) (m : Circuit) (tap : ℕ → ℕ → L
       subst (λ v. IsRightAt g x gt dt v z) k (follows_right n 0 y good ys h.1 t z e)
 
 -- the central lemma
-pub realised : (g : Netlist) → IsNetlist g → (m : Circuit) (tap : ℕ → ℕ → Logic) (held : ℕ → Logic) → Realises g m tap held → TimeIsLevel g m
-realised g ok m tap held real x gt dt tm n ss h t z e = history_right g ok m tap held real x gt dt tm n ss h t z e
+pub realised : (g : Netlist) → IsNetlist g → (m : Circuit) (held : ℕ → ℕ) → Realises g m held → TimeIsLevel g m
+realised g ok m held real x gt dt tm n ss h t z e = history_right g ok m held real x gt dt tm n ss h t z e

@@ -10,9 +10,10 @@ pub mod PortNames
 pub mod Risen
 pub mod OneTiming
 pub mod Generic
-pub mod PlainForm
+pub mod TappedForm
 pub mod Order
 pub mod Validity
-pub mod Fitting
+pub mod Parts
 pub mod Repeats
 pub mod Shallow
+pub mod TextLength

@@ -1,7 +1,7 @@
 pub mod Netlist
 pub mod Rules
 pub mod Timing
-pub mod Plain
+pub mod Tapped
 pub mod Lowered
 pub mod Valued
 pub mod Planned

@@ -1,27 +1,23 @@
-ghost use Rattle.std.specs.Prelude.{◌≡◌, ◌+◌, ◌≤◌, ◌++◌, length, All, IfOk, OnOk};
-ghost use Rattle.circuit.specs.Circuit.{Reg, And, Or};
+ghost use Rattle.std.specs.Prelude.{◌≡◌, ◌+◌, ◌≤◌, ◌++◌, length, IfOk, OnOk};
+ghost use Rattle.circuit.specs.Circuit.{And, Or};
 ghost use Rattle.circuit.specs.View.{logic};
 ghost use Rattle.gate_lower.specs.Rules.{latch_bits};
-ghost use Rattle.gate_lower.specs.Plain.{operand, gate_logic, tap_at, TapFits, GateFits, gate_assigns, output_assigns};
+ghost use Rattle.gate_lower.specs.Tapped.{operand, gate_logic, gate_assigns, output_assigns};
 
 use crate::gates::{Gate, Line, OutLine};
 use circuit::{Assign, Bit, Target};
 use rl_time::NoMemory;
 use std::alloc::Global;
 
-/// The bit that a line is, by the first registers of the delays.
-pub fn operand(firsts: &[u32], line: Line) -> Bit
-    requires { TapFits firsts.now line }
-    ensures { logic result ≡ operand (tap_at firsts.now) line }
+/// The bit that a line is.
+pub fn operand(line: Line) -> Bit
+    ensures { logic result ≡ operand line }
 {
     match line {
         Line::Low => Bit::Zero,
         Line::Input(i) => Bit::Input(i),
         Line::Gate(k) => Bit::Wire(k),
-        Line::Tap(n, c) => {
-            let first = firsts.get(n as usize).copied().unwrap_or(0);
-            Bit::Reg(first + c.saturating_sub(1), 0)
-        }
+        Line::Tap(n, c) => Bit::Reg(n, c.saturating_sub(1)),
     }
 }
 
@@ -38,16 +34,15 @@ fn and(alloc: Global, p: Bit, q: Bit) -> Result<Bit, NoMemory>
 }
 
 /// The expression of a gate; a latch holds its level in this register.
-fn gate_bit(alloc: Global, firsts: &[u32], register: u32, gate: Gate) -> Result<Bit, NoMemory>
-    requires { GateFits firsts.now gate }
-    ensures { IfOk result (λ bit. logic bit ≡ gate_logic (tap_at firsts.now) (Reg register 0) gate) }
+fn gate_bit(alloc: Global, register: u32, gate: Gate) -> Result<Bit, NoMemory>
+    ensures { IfOk result (λ bit. logic bit ≡ gate_logic register gate) }
 {
     match gate {
-        Gate::Or(p, q) => or(alloc, operand(firsts, p), operand(firsts, q)),
-        Gate::And(p, q) => and(alloc, operand(firsts, p), operand(firsts, q)),
+        Gate::Or(p, q) => or(alloc, operand(p), operand(q)),
+        Gate::And(p, q) => and(alloc, operand(p), operand(q)),
         Gate::Latch(p, q) => {
-            let not_yet = Bit::Not(Box::new(alloc, operand(firsts, q))?);
-            let rises = and(alloc, operand(firsts, p), not_yet)?;
+            let not_yet = Bit::Not(Box::new(alloc, operand(q))?);
+            let rises = and(alloc, operand(p), not_yet)?;
             or(alloc, Bit::Reg(register, 0), rises)
         }
     }
@@ -64,21 +59,15 @@ fn register_after(register: u32, gate: Gate) -> u32
 }
 
 /// The assigns of the gates, whose latches hold their levels from this register on.
-pub fn gate_assigns(
-    alloc: Global,
-    firsts: &[u32],
-    first: u32,
-    gates: &[Gate],
-) -> Result<Vec<Assign>, NoMemory>
+pub fn gate_assigns(alloc: Global, first: u32, gates: &[Gate]) -> Result<Vec<Assign>, NoMemory>
     requires few { length gates.now ≤ 16384 }
     requires room { first ≤ 65536 }
-    requires fit { All (GateFits firsts.now) gates.now }
-    ensures { IfOk result (λ assigns. assigns.items ≡ gate_assigns (tap_at firsts.now) 0 first gates.now) }
+    ensures { IfOk result (λ assigns. assigns.items ≡ gate_assigns 0 first gates.now) }
 {
     let mut assigns = Vec::new(alloc);
     let mut register = first;
     for (wire, gate) in gates.iter().enumerate() {
-        let bit = gate_bit(alloc, firsts, register, *gate)?;
+        let bit = gate_bit(alloc, register, *gate)?;
         assigns.push(Assign::new(Target::Wire(wire as u32), bit))?;
         register = register_after(register, *gate);
     }
@@ -86,17 +75,12 @@ pub fn gate_assigns(
 }
 
 /// Adds the assigns of the outputs.
-pub fn push_output_assigns(
-    assigns: &mut Vec<Assign>,
-    firsts: &[u32],
-    outputs: &[OutLine],
-) -> Result<(), NoMemory>
-    requires few { length outputs.now ≤ 64 }
-    requires fit { All (λ o. TapFits firsts.now o.line) outputs.now }
-    ensures { OnOk result (assigns.new.items ≡ assigns.old.items ++ output_assigns (tap_at firsts.now) 0 outputs.now) }
+pub fn push_output_assigns(assigns: &mut Vec<Assign>, outputs: &[OutLine]) -> Result<(), NoMemory>
+    requires { length outputs.now ≤ 64 }
+    ensures { OnOk result (assigns.new.items ≡ assigns.old.items ++ output_assigns 0 outputs.now) }
 {
     for (place, output) in outputs.iter().enumerate() {
-        let bit = operand(firsts, output.line());
+        let bit = operand(output.line());
         assigns.push(Assign::new(Target::Out(place as u32), bit))?;
     }
     Ok(())

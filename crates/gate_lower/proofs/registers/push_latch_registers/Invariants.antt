@@ -1,5 +1,5 @@
 use Rattle.std.proofs.Common.{◌≡◌, ◌+◌, ◌≤◌, ◌++◌, drop}
-use Rattle.gate_lower.specs.Plain.{latch_registers}
+use Rattle.gate_lower.specs.Tapped.{latch_registers}
 use Rattle.gate_lower.proofs.registers.push_latch_registers.Given as goal
 
 abbrev pub invariant-loop-wire : goal.invariant-loop-wire

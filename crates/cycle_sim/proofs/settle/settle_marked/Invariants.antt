@@ -2,7 +2,7 @@ use Rattle.std.proofs.Common.{◌≡◌, ◌-◌, length}
 use Rattle.circuit.specs.Meaning.{HasLevels}
 use Rattle.cycle_sim.specs.Marked.{NoneFrom}
 use Rattle.cycle_sim.specs.UpToDate.{IsUpToDate}
-use Rattle.cycle_sim.proofs.settle.settle.Given as goal
+use Rattle.cycle_sim.proofs.settle.settle_marked.Given as goal
 
 abbrev pub invariant-loop-k : goal.invariant-loop-k
 invariant-loop-k l = record {

@@ -6,7 +6,8 @@ use Rattle.cycle_sim.specs.UpToDate.{IsSeen}
 use Rattle.cycle_sim.specs.Shifts.{Edging}
 use Rattle.cycle_sim.proofs.Listed.{none_through}
 use Rattle.cycle_sim.proofs.Shifting.{edging_start, edging_on, edging_up, edging_rows, count_rows, state_by, with_row}
-use Rattle.cycle_sim.proofs.edge.clock_edge.Goals as goal
+use Rattle.cycle_sim.proofs.edge.edge_marked.Goals as goal
+use Rattle.cycle_sim.proofs.edge.edge_marked.Goals.{then-shift_register, else-shift_register}
 
 pub loop-reg-init : goal.loop-reg-init
 loop-reg-init c =
@@ -18,6 +19,7 @@ loop-reg-init c =
       moving_room = t.moving_room;
       none = c.first-reg.ensures.none;
       found = c.first-reg.ensures.found;
+      changed = omega arith;
       edging = edging_start m s c.args.marks.now c.take_firsts.new.marks c.args.moving.now c.take_firsts.new.moving c.take_firsts.new.firsts
           c.requires.levels c.requires.up_to_date (count_rows m.regs s.regs c.requires.levels.regs) t.assigns t.moving t.firsts;
     }
@@ -42,6 +44,10 @@ loop-reg-preserved c =
       moving_room = c.clear.ensures.room ∙ i.moving_room;
       none = none_through c.loop-reg.moving moving' reg c.first-reg-in-loop-reg.result i.none c.clear.ensures.cleared c.clear.ensures.others c.first-reg-in-loop-reg.ensures.none;
       found = c.first-reg-in-loop-reg.ensures.found;
+      changed = elim c.if-shift_register.branch [
+        | then-shift_register w ↦ omega (arith, w.changed-is, i.changed, c.first-reg-in-loop-reg.ensures.low)
+        | else-shift_register w ↦ omega (arith, w.changed-is, i.changed, c.first-reg-in-loop-reg.ensures.low)
+      ];
       edging = subst (λ z. Edging m s0 z c.args.marks.now words' moving' firsts) (sym state) (
           edging_on m s0 s c.args.marks.now c.loop-reg.marks words' c.loop-reg.moving moving' firsts reg first c.requires.levels i.edging lt waiting refl
           c.clear.ensures.cleared c.clear.ensures.others c.shift_register.ensures.more seen c.shift_register.ensures.quiet);

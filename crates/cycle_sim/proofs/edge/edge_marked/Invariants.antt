@@ -1,7 +1,7 @@
-use Rattle.std.proofs.Common.{◌≡◌, ◌-◌, ◌<◌, ◌*◌, length}
+use Rattle.std.proofs.Common.{◌≡◌, ◌-◌, ◌<◌, ◌≤◌, ◌*◌, length}
 use Rattle.cycle_sim.specs.Marked.{NoneFrom, IsMarked}
 use Rattle.cycle_sim.specs.Shifts.{Edging}
-use Rattle.cycle_sim.proofs.edge.clock_edge.Given as goal
+use Rattle.cycle_sim.proofs.edge.edge_marked.Given as goal
 
 abbrev pub invariant-loop-reg : goal.invariant-loop-reg
 invariant-loop-reg l = record {
@@ -9,6 +9,7 @@ invariant-loop-reg l = record {
   moving_room : length l.moving ≡ length l.fn.moving;
   none : NoneFrom l.moving 0 l.reg;
   found : l.reg < 64 * length l.moving → IsMarked l.moving l.reg;
+  changed : l.changed ≤ l.reg;
   edging : Edging l.m l.fn.levels l.levels l.fn.marks l.marks l.moving l.firsts;
 }
 
