@@ -87,18 +87,19 @@ def times():
     return ["never" if i % 8 == 7 else str(numbers.below(24)) for i in range(INPUTS)]
 
 
-def run(words, out):
-    """Runs a program five times, or once where that takes over 5 s: the least seconds, and the most memory in MiB."""
+def run(words, out, status=0):
+    """Runs a program five times, or once where that takes over 5 s: the least seconds, and the most memory in MiB. It must end
+    with this status."""
     best = None
     most = 0.0
     for _ in range(5):
         with open(out, "wb") as to:
             begin = time.perf_counter()
             child = subprocess.Popen(words, stdout=to)
-            _, status, usage = os.wait4(child.pid, 0)
-            child.returncode = os.waitstatus_to_exitcode(status)
+            _, ended, usage = os.wait4(child.pid, 0)
+            child.returncode = os.waitstatus_to_exitcode(ended)
             seconds = time.perf_counter() - begin
-        if child.returncode != 0:
+        if child.returncode != status:
             sys.exit("%s ended with %d" % (" ".join(words[:2]), child.returncode))
         best = seconds if best is None else min(best, seconds)
         most = max(most, usage.ru_maxrss / 1024)
@@ -155,7 +156,8 @@ def built(module):
     """How many wires and register bits a module has."""
     with open(module) as f:
         text = f.read()
-    return len(re.findall("^  wire ", text, re.M)), len(re.findall("^  reg ", text, re.M))
+    last_bits = re.findall(r"^  reg (?:\[(\d+):0\] )?", text, re.M)
+    return len(re.findall("^  wire ", text, re.M)), sum(int(last or 0) + 1 for last in last_bits)
 
 
 HEAD = "operators  wires   bits  command    cycles   seconds     MiB  growth"

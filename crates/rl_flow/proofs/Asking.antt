@@ -10,7 +10,7 @@ use Rattle.std.proofs.lemmas.Slice.Eq.{bytes_eq-Decides}
 use Rattle.rl_time.specs.declared.time.Time.{Time}
 use Rattle.rl_time.specs.declared.time.Time.TheVariants as time
 use Rattle.rl_time.specs.Text.{time_text, FitsIn64Bits}
-use Rattle.rl_flow.specs.Task.{command_of}
+use Rattle.rl_flow.specs.Task.{command_of, check_command, of_one_file}
 use Rattle.rl_flow.specs.Words.{number_word, time_word}
 
 -- r is what a reader gives of each text that some time has
@@ -122,8 +122,20 @@ not_up_to n most great = over _ refl where
 
 -- ---- words
 
-pub too_few_words : (words : List (String Global)) → length words < 2 → None ≡ command_of (map string_bytes words)
+pub no_words : (words : List (String Global)) → length words < 1 → None ≡ command_of (map string_bytes words)
 unfolding command_of
-too_few_words [] few = refl
-too_few_words (a ∷ []) few = refl
-too_few_words (a ∷ b ∷ words) few = absurd (omega (arith, few))
+no_words [] few = refl
+no_words (a ∷ words) few = absurd (omega (arith, few))
+
+pub no_file : (command : List ℕ) (words : List (String Global)) → length words < 1 → None ≡ of_one_file command (map string_bytes words)
+unfolding of_one_file
+no_file command [] few = refl
+no_file command (a ∷ words) few = absurd (omega (arith, few))
+
+pub not_three : (words : List (String Global)) → (length words ≡ 3 → ⊥) → None ≡ check_command (map string_bytes words)
+unfolding check_command
+not_three [] other = refl
+not_three (a ∷ []) other = refl
+not_three (a ∷ b ∷ []) other = refl
+not_three (a ∷ b ∷ c ∷ []) other = absurd (other refl)
+not_three (a ∷ b ∷ c ∷ d ∷ words) other = refl

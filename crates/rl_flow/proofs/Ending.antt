@@ -11,14 +11,15 @@ use Rattle.rl_jobs.specs.declared.fault.Fault.{Fault}
 use Rattle.rl_jobs.specs.declared.source.Source.{Source}
 use Rattle.rl_jobs.specs.declared.source.Source.TheVariants.{OfNetwork, OfTable}
 use Rattle.rl_jobs.specs.Sources.{terms_of}
+use Rattle.rl_jobs.specs.Checked.{ThreeTexts, three_texts, IsAcceptedText, IsRefusedText, CanBeChecked}
 use Rattle.rl_jobs.specs.Compiled.{HasFewBits, IsModuleText, CanBeCompiled}
 use Rattle.rl_jobs.specs.Synthesised.{IsSynthesisText, CanBeSynthesised}
 use Rattle.rl_jobs.specs.Values.{IsValueText, CanBeValued}
 use Rattle.rl_jobs.specs.Windows.{IsWindowText, CanBeTabulated}
 use Rattle.rl_flow.specs.Levels.{IsLevelText, CanBeSimulated}
-use Rattle.rl_flow.specs.Task.{Task, Compile, Eval, Synth, Tabulate, Sim, Command}
+use Rattle.rl_flow.specs.Task.{Task, Compile, Eval, Synth, Tabulate, Sim, Check, Command}
 use Rattle.rl_flow.specs.Asked.{Asked, ShelfState, with_limits, asked, IsTextOf, AreTextsOf, IsTooLong}
-use Rattle.rl_flow.specs.Answers.{OnOne, IsText, MayHave, CanBeDone, IsCause}
+use Rattle.rl_flow.specs.Answers.{OnOne, OnThree, IsText, MayHave, CanBeDone, IsCause}
 use Rattle.rl_flow.specs.Message.{line_of}
 use Rattle.rl_flow.specs.Status.{status_of}
 use Rattle.rl_flow.specs.Outcome.{OnTexts, HasCause, IsRefused, IsOrGivesWay, NoneRose, PutsLine, EndsBy}
@@ -119,8 +120,22 @@ only [] P Q f x = absurd x
 only (bytes ∷ []) P Q f x = f bytes x
 only (bytes ∷ other ∷ texts) P Q f x = absurd x
 
+-- three texts have another property
+three : (texts : List (List ℕ)) (P Q : ThreeTexts → Type 0) → ((t : ThreeTexts) → P t → Q t) → OnThree texts P → OnThree texts Q
+three [] P Q f x = absurd x
+three (a ∷ []) P Q f x = absurd x
+three (a ∷ b ∷ []) P Q f x = absurd x
+three (a ∷ b ∷ c ∷ []) P Q f x = f (three_texts a b c) x
+three (a ∷ b ∷ c ∷ d ∷ texts) P Q f x = absurd x
+
 can : (task : Task) (v : Verdict) (texts : List (List ℕ)) (answer : List ℕ) → IsText task v texts answer → CanBeDone task texts
-can task verdict.No texts answer x = absurd x
+can Compile verdict.No texts answer x = absurd x
+can (Eval times) verdict.No texts answer x = absurd x
+can Synth verdict.No texts answer x = absurd x
+can (Tabulate name window) verdict.No texts answer x = absurd x
+can (Sim cycles times) verdict.No texts answer x = absurd x
+can Check verdict.No texts answer x =
+    three texts (λ t. IsRefusedText t answer) CanBeChecked (λ t y. (y.claim, y.read, y.agree)) x
 can task verdict.Undecided texts answer x = absurd x
 can Compile verdict.Done texts answer x =
     only texts (λ b. IsModuleText b answer) CanBeCompiled (λ b y. (y.source, y.read, has_few y.source y.few)) x
@@ -135,9 +150,16 @@ can (Tabulate name window) verdict.Done texts answer x =
     (y.network, y.read, (y.is.place, y.is.named, y.is.in_reach, few))) x
 can (Sim cycles times) verdict.Done texts answer x =
     only texts (λ b. IsLevelText cycles times b answer) (CanBeSimulated times) (λ b y. (y.circuit, y.read, y.one_for_each_input)) x
+can Check verdict.Done texts answer x =
+    three texts (λ t. IsAcceptedText t answer) CanBeChecked (λ t y. (y.claim, y.read, y.agree)) x
 
 may : (task : Task) (v : Verdict) (texts : List (List ℕ)) (answer : List ℕ) → IsText task v texts answer → MayHave task v
-may task verdict.No texts answer x = absurd x
+may Compile verdict.No texts answer x = absurd x
+may (Eval times) verdict.No texts answer x = absurd x
+may Synth verdict.No texts answer x = absurd x
+may (Tabulate name window) verdict.No texts answer x = absurd x
+may (Sim cycles times) verdict.No texts answer x = absurd x
+may Check verdict.No texts answer x = tt
 may task verdict.Undecided texts answer x = absurd x
 may task verdict.Done texts answer x = tt
 

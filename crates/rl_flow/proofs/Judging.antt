@@ -20,8 +20,9 @@ use Rattle.rl_jobs.specs.Windows.{CanBeWritten, CanBeTabulated, IsNotTabulated}
 use Rattle.verilog_laws.specs.Answers.{HasAnswer}
 use Rattle.rl_flow.specs.Asked.{limits}
 use Rattle.rl_flow.specs.Levels.{IsNoModule, HasOtherPorts, CanBeSimulated, IsNotSimulated}
-use Rattle.rl_flow.specs.Task.{Task, Compile, Eval, Synth, Tabulate, Sim}
-use Rattle.rl_flow.specs.Answers.{OnOne, CanBeDone, IsCause}
+use Rattle.rl_flow.specs.Task.{Task, Compile, Eval, Synth, Tabulate, Sim, Check}
+use Rattle.rl_jobs.specs.Checked.{ThreeTexts, three_texts, Claim, SpellClaim, Agree, CanBeChecked, AreNotChecked}
+use Rattle.rl_flow.specs.Answers.{OnOne, OnThree, CanBeDone, IsCause}
 
 -- ---- modules
 
@@ -65,6 +66,14 @@ both [] P Q C f x y = absurd x
 both (bytes ∷ []) P Q C f x y = f bytes x y
 both (bytes ∷ other ∷ texts) P Q C f x y = absurd x
 
+-- what follows from two properties of three texts
+pub both_of_three : (texts : List (List ℕ)) (P Q : ThreeTexts → Type 0) (C : Type 0) → ((three : ThreeTexts) → P three → Q three → C) → OnThree texts P → OnThree texts Q → C
+both_of_three [] P Q C f x y = absurd x
+both_of_three (a ∷ []) P Q C f x y = absurd x
+both_of_three (a ∷ b ∷ []) P Q C f x y = absurd x
+both_of_three (a ∷ b ∷ c ∷ []) P Q C f x y = f (three_texts a b c) x y
+both_of_three (a ∷ b ∷ c ∷ d ∷ texts) P Q C f x y = absurd x
+
 -- what the texts of all tasks are read as
 pub record Readings : Type 0 where
   pub compiling : IsReading (λ bytes s. SpellsSource bytes s × HasFewBits s) IsNotCompiled
@@ -72,6 +81,7 @@ pub record Readings : Type 0 where
   pub synthesising : IsReading SpellsSoundTable IsNotSynthesised
   pub tabulating : (name : List ℕ) (window : ℕ) → IsReading (λ bytes n. SpellsNetwork bytes n × CanBeWritten name window n) (IsNotTabulated name window)
   pub simulating : (times : List Time) → IsReading (λ bytes m. SpellsModule bytes m × (length times ≡ length m.inputs)) (IsNotSimulated times)
+  pub checking : IsReading (λ texts c. SpellClaim texts c × Agree c) AreNotChecked
 
 pub one_fault : Readings → (task : Task) (texts : List (List ℕ)) (f g : Fault) → IsCause task texts f → IsCause task texts g → f ≡ g
 one_fault h Compile texts f g x y =
@@ -84,6 +94,8 @@ one_fault h (Tabulate name window) texts f g x y =
     both texts (λ b. IsNotTabulated name window b f) (λ b. IsNotTabulated name window b g) (f ≡ g) (λ b. (h.tabulating name window).one_fault b f g) x y
 one_fault h (Sim cycles times) texts f g x y =
     both texts (λ b. IsNotSimulated times b f) (λ b. IsNotSimulated times b g) (f ≡ g) (λ b. (h.simulating times).one_fault b f g) x y
+one_fault h Check texts f g x y =
+    both_of_three texts (λ t. AreNotChecked t f) (λ t. AreNotChecked t g) (f ≡ g) (λ t. h.checking.one_fault t f g) x y
 
 pub no_fault : Readings → (task : Task) (texts : List (List ℕ)) (f : Fault) → CanBeDone task texts → IsCause task texts f → ⊥
 no_fault h Compile texts f x y =
@@ -96,6 +108,8 @@ no_fault h (Tabulate name window) texts f x y =
     both texts (CanBeTabulated name window) (λ b. IsNotTabulated name window b f) ⊥ (λ b can bad. (h.tabulating name window).not_both b can.0 f (can.1, can.2) bad) x y
 no_fault h (Sim cycles times) texts f x y =
     both texts (CanBeSimulated times) (λ b. IsNotSimulated times b f) ⊥ (λ b can bad. (h.simulating times).not_both b can.0 f (can.1, can.2) bad) x y
+no_fault h Check texts f x y =
+    both_of_three texts CanBeChecked (λ t. AreNotChecked t f) ⊥ (λ t can bad. h.checking.not_both t can.0 f (can.1, can.2) bad) x y
 
 -- what follows for one text from what follows for each
 only : (texts : List (List ℕ)) (P : List ℕ → Type 0) (Q : Fault → List ℕ → Type 0) → length texts ≡ 1 → ((bytes : List ℕ) → P bytes ⊎ ((f : Fault) × Q f bytes)) →
@@ -103,6 +117,15 @@ only : (texts : List (List ℕ)) (P : List ℕ → Type 0) (Q : Fault → List �
 only [] P Q e either = absurd (cc)
 only (bytes ∷ []) P Q e either = either bytes
 only (bytes ∷ other ∷ texts) P Q e either = absurd (cc)
+
+-- the same for three texts
+three : (texts : List (List ℕ)) (P : ThreeTexts → Type 0) (Q : Fault → ThreeTexts → Type 0) → length texts ≡ 3 → ((t : ThreeTexts) → P t ⊎ ((f : Fault) × Q f t)) →
+    OnThree texts P ⊎ ((f : Fault) × OnThree texts (Q f))
+three [] P Q e either = absurd (cc)
+three (a ∷ []) P Q e either = absurd (cc)
+three (a ∷ b ∷ []) P Q e either = absurd (cc)
+three (a ∷ b ∷ c ∷ []) P Q e either = either (three_texts a b c)
+three (a ∷ b ∷ c ∷ d ∷ texts) P Q e either = absurd (cc)
 
 -- one thing of both properties
 flat : (S : Type 0) (P Q : S → Type 0) (R : Type 0) → ((s : S) × (P s × Q s)) ⊎ R → ((s : S) × P s × Q s) ⊎ R
@@ -118,3 +141,5 @@ done_or_fault h (Tabulate name window) texts e = only texts (CanBeTabulated name
     (λ b. flat Net (SpellsNetwork b) (CanBeWritten name window) ((f : Fault) × IsNotTabulated name window b f) ((h.tabulating name window).some b))
 done_or_fault h (Sim cycles times) texts e = only texts (CanBeSimulated times) (λ f b. IsNotSimulated times b f) e
     (λ b. flat Circuit (SpellsModule b) (λ m. length times ≡ length m.inputs) ((f : Fault) × IsNotSimulated times b f) ((h.simulating times).some b))
+done_or_fault h Check texts e = three texts CanBeChecked (λ f t. AreNotChecked t f) e
+    (λ t. flat Claim (SpellClaim t) Agree ((f : Fault) × AreNotChecked t f) (h.checking.some t))

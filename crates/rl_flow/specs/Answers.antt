@@ -1,12 +1,13 @@
 -- What a task makes of the texts of its files, and why it is refused.
 use Rattle.std.specs.Prelude.{ℕ, List, [], ◌∷◌}
 use Rattle.rl_jobs.specs.declared.fault.Fault.{Fault}
+use Rattle.rl_jobs.specs.Checked.{ThreeTexts, three_texts, IsAcceptedText, IsRefusedText, CanBeChecked, AreNotChecked}
 use Rattle.rl_jobs.specs.Compiled.{IsModuleText, CanBeCompiled, IsNotCompiled}
 use Rattle.rl_jobs.specs.Synthesised.{IsSynthesisText, CanBeSynthesised, IsNotSynthesised}
 use Rattle.rl_jobs.specs.Values.{IsValueText, CanBeValued, IsNotValued}
 use Rattle.rl_jobs.specs.Windows.{IsWindowText, CanBeTabulated, IsNotTabulated}
 use Rattle.rl_flow.specs.Levels.{IsLevelText, CanBeSimulated, IsNotSimulated}
-use Rattle.rl_flow.specs.Task.{Task, Compile, Eval, Synth, Tabulate, Sim}
+use Rattle.rl_flow.specs.Task.{Task, Compile, Eval, Synth, Tabulate, Sim, Check}
 use Rattle.rl_flow.specs.declared.verdict.Verdict.{Verdict}
 use Rattle.rl_flow.specs.declared.verdict.Verdict.TheVariants as verdict
 
@@ -15,6 +16,14 @@ abbrev pub OnOne : List (List ℕ) → (List ℕ → Type 0) → Type 0
 OnOne [] P = ⊥
 OnOne (text ∷ []) P = P text
 OnOne (text ∷ other ∷ texts) P = ⊥
+
+-- there are three texts, with this property
+abbrev pub OnThree : List (List ℕ) → (ThreeTexts → Type 0) → Type 0
+OnThree [] P = ⊥
+OnThree (first ∷ []) P = ⊥
+OnThree (first ∷ second ∷ []) P = ⊥
+OnThree (first ∷ second ∷ third ∷ []) P = P (three_texts first second third)
+OnThree (first ∷ second ∷ third ∷ other ∷ texts) P = ⊥
 
 -- ---- answers
 
@@ -25,9 +34,11 @@ IsDoneText (Eval times) texts answer = OnOne texts (λ bytes. IsValueText times 
 IsDoneText Synth texts answer = OnOne texts (λ bytes. IsSynthesisText bytes answer)
 IsDoneText (Tabulate name window) texts answer = OnOne texts (λ bytes. IsWindowText name window bytes answer)
 IsDoneText (Sim cycles times) texts answer = OnOne texts (λ bytes. IsLevelText cycles times bytes answer)
+IsDoneText Check texts answer = OnThree texts (λ three. IsAcceptedText three answer)
 
 -- the text by which a task is answered by no: status 1
 abbrev pub IsNoText : Task → List (List ℕ) → List ℕ → Type 0
+IsNoText Check texts answer = OnThree texts (λ three. IsRefusedText three answer)
 IsNoText _ texts answer = ⊥
 
 -- the text by which a task is left undecided: status 7
@@ -40,11 +51,16 @@ IsText task verdict.Done texts answer = IsDoneText task texts answer
 IsText task verdict.No texts answer = IsNoText task texts answer
 IsText task verdict.Undecided texts answer = IsUndecidedText task texts answer
 
+-- a task that may be answered by no
+abbrev pub MayBeNo : Task → Type 0
+MayBeNo Check = Unit {0}
+MayBeNo _ = ⊥
+
 -- the verdicts that a task may have
 abbrev pub MayHave : Task → Verdict → Type 0
-MayHave _ verdict.Done = Unit {0}
-MayHave _ verdict.No = ⊥
-MayHave _ verdict.Undecided = ⊥
+MayHave task verdict.Done = Unit {0}
+MayHave task verdict.No = MayBeNo task
+MayHave task verdict.Undecided = ⊥
 
 -- ---- refusals
 
@@ -55,6 +71,7 @@ CanBeDone (Eval times) texts = OnOne texts (CanBeValued times)
 CanBeDone Synth texts = OnOne texts CanBeSynthesised
 CanBeDone (Tabulate name window) texts = OnOne texts (CanBeTabulated name window)
 CanBeDone (Sim cycles times) texts = OnOne texts (CanBeSimulated times)
+CanBeDone Check texts = OnThree texts CanBeChecked
 
 -- This fault of the texts keeps the task from being done. Of several faults it is the first: file by file that of its spelling, then
 -- what must agree between the files and the words, then the limits of the task.
@@ -64,3 +81,4 @@ IsCause (Eval times) texts f = OnOne texts (λ bytes. IsNotValued times bytes f)
 IsCause Synth texts f = OnOne texts (λ bytes. IsNotSynthesised bytes f)
 IsCause (Tabulate name window) texts f = OnOne texts (λ bytes. IsNotTabulated name window bytes f)
 IsCause (Sim cycles times) texts f = OnOne texts (λ bytes. IsNotSimulated times bytes f)
+IsCause Check texts f = OnThree texts (λ three. AreNotChecked three f)

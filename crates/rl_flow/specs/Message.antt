@@ -4,6 +4,8 @@ use Rattle.net_lang.specs.declared.reader.rules.Rule.{Rule}
 use Rattle.net_lang.specs.declared.reader.rules.Rule.TheVariants as rule
 use Rattle.func_table.specs.declared.reader.rules.Rule.{Rule as TableRule}
 use Rattle.func_table.specs.declared.reader.rules.Rule.TheVariants as table_rule
+use Rattle.refutation.specs.declared.reader.rules.Rule.{Rule as TreeRule}
+use Rattle.refutation.specs.declared.reader.rules.Rule.TheVariants as tree_rule
 use Rattle.verilog_text.specs.declared.rule.Rule.{Rule as ModuleRule}
 use Rattle.verilog_text.specs.declared.rule.Rule.TheVariants as module_rule
 use Rattle.causality.specs.declared.fault.RowFault.{RowFault}
@@ -43,6 +45,13 @@ abbrev pub table_rule_text : TableRule → List ℕ
 table_rule_text table_rule.Syntax = codes "E30"
 table_rule_text table_rule.Count = codes "E31"
 
+-- the code of a rule of trees
+abbrev pub tree_rule_text : TreeRule → List ℕ
+tree_rule_text tree_rule.Syntax = codes "E60"
+tree_rule_text tree_rule.Range = codes "E61"
+tree_rule_text tree_rule.Long = codes "E62"
+tree_rule_text tree_rule.Count = codes "E63"
+
 -- the code of a rule of modules
 abbrev pub module_rule_text : ModuleRule → List ℕ
 module_rule_text module_rule.Syntax = codes "E70"
@@ -64,6 +73,10 @@ fault_text (fault.Network file r line) = at_line (rule_text r) file line
 fault_text (fault.Table file r line) = at_line (table_rule_text r) file line
 fault_text (fault.Rows file f) = row_fault_text file f
 fault_text (fault.Module file r line) = at_line (module_rule_text r) file line
+fault_text (fault.Trees file r line) = at_line (tree_rule_text r) file line
+fault_text (fault.InputNames place) = numbered (begin (codes "E50")) (codes " input ") place
+fault_text (fault.OutputNames place) = numbered (begin (codes "E50")) (codes " output ") place
+fault_text fault.TreeNames = begin (codes "E53")
 fault_text (fault.TooManyBits bits) = numbered (begin (codes "E20")) (codes " ") bits
 fault_text (fault.TooWide window) = numbered (begin (codes "E40")) (codes " ") window
 fault_text fault.TooManyRows = numbered (begin (codes "E41")) (codes " ") 256

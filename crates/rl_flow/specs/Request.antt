@@ -2,7 +2,7 @@
 use Rattle.std.specs.Prelude.{◌≤◌}
 use Rattle.rl_flow.specs.declared.request.Request.{Request}
 use Rattle.rl_flow.specs.declared.request.Request.TheVariants as request
-use Rattle.rl_flow.specs.Task.{Task, Compile, Eval, Synth, Tabulate, Sim}
+use Rattle.rl_flow.specs.Task.{Task, Compile, Eval, Synth, Tabulate, Sim, Check}
 
 abbrev pub task : Request → Task
 task request.Compile = Compile
@@ -10,6 +10,7 @@ task (request.Eval times) = Eval times
 task request.Synth = Synth
 task (request.Tabulate name window) = Tabulate name.now window
 task (request.Sim cycles times) = Sim cycles times
+task request.Check = Check
 
 -- its window, if it has one, is at most 1,000,000; its cycles, if it has some, are 1 to 100,000
 abbrev pub IsSmall : Request → Type 0
@@ -18,3 +19,4 @@ IsSmall (request.Eval times) = Unit {0}
 IsSmall request.Synth = Unit {0}
 IsSmall (request.Tabulate name window) = window ≤ 1000000
 IsSmall (request.Sim cycles times) = (1 ≤ cycles) × (cycles ≤ 100000)
+IsSmall request.Check = Unit {0}

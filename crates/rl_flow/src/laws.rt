@@ -48,6 +48,7 @@ pub fn one_text()
     laws::one_value_text();
     laws::one_synthesis_text();
     laws::one_window_text();
+    laws::one_check_text();
     one_level_text();
 }
 
@@ -60,6 +61,7 @@ pub fn one_fault()
     laws::evaluating();
     laws::synthesising();
     laws::tabulating();
+    laws::checking();
     simulating();
 }
 
@@ -71,5 +73,6 @@ pub fn done_or_fault()
     laws::evaluating();
     laws::synthesising();
     laws::tabulating();
+    laws::checking();
     simulating();
 }

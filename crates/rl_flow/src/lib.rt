@@ -25,6 +25,8 @@ pub use status::Status;
 pub use verdict::Verdict;
 
 #[cfg(test)]
+mod check_tests;
+#[cfg(test)]
 mod module_tests;
 #[cfg(test)]
 mod size_tests;

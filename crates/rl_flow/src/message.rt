@@ -1,6 +1,6 @@
 //! The line on standard error.
 ghost use Rattle.std.specs.Prelude.{◌≡◌, ◌≤◌, ◌+◌, ◌++◌, length, codes};
-ghost use Rattle.rl_flow.specs.Message.{begin, numbered, at_line, rule_text, table_rule_text, module_rule_text, row_fault_text, fault_text, message_of, line_of};
+ghost use Rattle.rl_flow.specs.Message.{begin, numbered, at_line, rule_text, table_rule_text, tree_rule_text, module_rule_text, row_fault_text, fault_text, message_of, line_of};
 
 use crate::refusal::Refusal;
 use arrayvec::ArrayString;
@@ -82,6 +82,18 @@ fn table_rule_text(rule: func_table::Rule) -> &'static str
     }
 }
 
+fn tree_rule_text(rule: refutation::Rule) -> &'static str
+    ensures text { result.now ≡ tree_rule_text rule }
+    ensures short { length result.now ≤ 3 }
+{
+    match rule {
+        refutation::Rule::Syntax => "E60",
+        refutation::Rule::Range => "E61",
+        refutation::Rule::Long => "E62",
+        refutation::Rule::Count => "E63",
+    }
+}
+
 fn module_rule_text(rule: verilog_text::Rule) -> &'static str
     ensures text { result.now ≡ module_rule_text rule }
     ensures short { length result.now ≤ 3 }
@@ -140,6 +152,10 @@ fn fault_text(fault: Fault) -> ErrorLine
         Fault::Table(file, rule, line) => at_line(table_rule_text(rule), file, line),
         Fault::Rows(file, fault) => row_fault_text(file, fault),
         Fault::Module(file, rule, line) => at_line(module_rule_text(rule), file, line),
+        Fault::Trees(file, rule, line) => at_line(tree_rule_text(rule), file, line),
+        Fault::InputNames(place) => ErrorLine::new("E50").with(" input ", place),
+        Fault::OutputNames(place) => ErrorLine::new("E50").with(" output ", place),
+        Fault::TreeNames => ErrorLine::new("E53"),
         Fault::TooManyBits(bits) => ErrorLine::new("E20").with(" ", bits),
         Fault::TooWide(window) => ErrorLine::new("E40").with(" ", u64::from(window)),
         Fault::TooManyRows => ErrorLine::new("E41").with(" ", 256),

@@ -4,7 +4,7 @@ use crate::tests::{EASY, RACE_MODULE, expect, expect_values, output_of};
 use std::alloc::Global;
 use std::test::Fail;
 
-const TAPS_MODULE: &[u8] = b"module race(clk, rst, in_a, out_y, out_z);
+pub const TAPS_MODULE: &[u8] = b"module race(clk, rst, in_a, out_y, out_z);
   input clk;
   input rst;
   input in_a;
@@ -14,6 +14,28 @@ const TAPS_MODULE: &[u8] = b"module race(clk, rst, in_a, out_y, out_z);
   assign out_y = r0[2];
   assign out_z = r0[4];
   always @(posedge clk) if (rst) r0 <= 5'b0; else r0 <= {r0[3:0], in_a};
+endmodule
+";
+
+// The same with one register for each bit.
+const CHAIN_MODULE: &[u8] = b"module race(clk, rst, in_a, out_y, out_z);
+  input clk;
+  input rst;
+  input in_a;
+  output out_y;
+  output out_z;
+  reg r0;
+  reg r1;
+  reg r2;
+  reg r3;
+  reg r4;
+  assign out_y = r2;
+  assign out_z = r4;
+  always @(posedge clk) if (rst) r0 <= 1'b0; else r0 <= in_a;
+  always @(posedge clk) if (rst) r1 <= 1'b0; else r1 <= r0;
+  always @(posedge clk) if (rst) r2 <= 1'b0; else r2 <= r1;
+  always @(posedge clk) if (rst) r3 <= 1'b0; else r3 <= r2;
+  always @(posedge clk) if (rst) r4 <= 1'b0; else r4 <= r3;
 endmodule
 ";
 
@@ -50,7 +72,8 @@ fn simulates_modules(rt: HostRuntime) -> Result<(), Fail> {
         b"y 011\n",
     )?;
     let both = b"y 00001111\nz 00000011\n";
-    expect_values(&rt, alloc, TAPS_MODULE, &["sim", "f", "8", "1"], both)
+    expect_values(&rt, alloc, TAPS_MODULE, &["sim", "f", "8", "1"], both)?;
+    expect_values(&rt, alloc, CHAIN_MODULE, &["sim", "f", "8", "1"], both)
 }
 
 // The name y, so many digits 0, and so many digits 1.

@@ -5,10 +5,10 @@ ghost use Rattle.rl_io.specs.Files.{Files};
 ghost use Rattle.rl_jobs.specs.Sources.{FailsBy};
 ghost use Rattle.rl_jobs.specs.declared.fault.Fault.{Fault};
 ghost use Rattle.rl_flow.specs.Words.{texts_of};
-ghost use Rattle.rl_flow.specs.Task.{Command, command_of};
+ghost use Rattle.rl_flow.specs.Task.{Check, Command, command_of};
 ghost use Rattle.rl_flow.specs.Request.{task, IsSmall};
 ghost use Rattle.rl_flow.specs.Asked.{limits, asked, shelf_state, AreWithin, IsTooLong};
-ghost use Rattle.rl_flow.specs.Answers.{IsDoneText, IsText, IsCause, CanBeDone, MayHave};
+ghost use Rattle.rl_flow.specs.Answers.{IsText, IsCause, CanBeDone, MayHave};
 ghost use Rattle.rl_flow.specs.Outcome.{OnTexts, Answers, Leaves, HasCause, IsRefused, IsOrGivesWay, NoneRose, GaveFor};
 ghost use Rattle.rl_flow.specs.declared.refusal.Refusal.TheVariants as why;
 
@@ -21,6 +21,7 @@ use crate::verdict::{Answer, Verdict};
 use crate::words::parse;
 use rl_io::{Shelf, Sink, put_all};
 use rl_jobs::JobError;
+use rl_jobs::check::check;
 use rl_jobs::compile::compile;
 use rl_jobs::eval::eval;
 use rl_jobs::synth::synth;
@@ -37,6 +38,7 @@ fn limits(request: &Request<'_>) -> &'static [u64]
             &[1_048_576]
         }
         Request::Sim(_, _) => &[16_777_216],
+        Request::Check => &[1_048_576, 1_048_576, 67_108_864],
     }
 }
 
@@ -51,21 +53,35 @@ fn only(texts: &[Vec<u8>]) -> &[u8]
     text.as_slice()
 }
 
-/// The text by which a request is done.
-fn done_text(alloc: Global, request: &Request<'_>, texts: &[Vec<u8>]) -> Result<Vec<u8>, JobError>
-    requires count { length texts.now ≡ length (limits (task request.now)) }
-    requires short { AreWithin (limits (task request.now)) (map (λ t. t.items) texts.now) }
-    requires small { IsSmall request.now }
-    ensures text { IfOk result (λ text. IsDoneText (task request.now) (map (λ t. t.items) texts.now) text.items) }
-    ensures cause { IfErr result (FailsBy (IsCause (task request.now) (map (λ t. t.items) texts.now))) }
+/// The three texts.
+fn three(texts: &[Vec<u8>]) -> (&[u8], &[u8], &[u8])
+    requires { length texts.now ≡ 3 }
+    ensures { map (λ t. t.items) texts.now ≡ result.0.now ∷ result.1.now ∷ result.2.now ∷ [] }
 {
-    match request {
-        Request::Compile => compile(alloc, only(texts)),
-        Request::Eval(times) => eval(alloc, only(texts), times.as_slice()),
-        Request::Synth => synth(alloc, only(texts)),
-        Request::Tabulate(name, window) => tabulate(alloc, only(texts), name.as_bytes(), *window),
-        Request::Sim(cycles, times) => sim(alloc, only(texts), *cycles, times.as_slice()),
-    }
+    let [first, second, third] = texts else {
+        unreachable!();
+    };
+    (first.as_slice(), second.as_slice(), third.as_slice())
+}
+
+/// What the trees of the third text show of the networks of the first two: done where all are valid, and else no.
+fn check_answer(alloc: Global, texts: &[Vec<u8>]) -> Result<Answer, JobError>
+    requires count { length texts.now ≡ 3 }
+    requires short { AreWithin (limits Check) (map (λ t. t.items) texts.now) }
+    ensures text { IfOk result (λ a. IsText Check a.verdict (map (λ t. t.items) texts.now) a.text.items) }
+    ensures cause { IfErr result (FailsBy (IsCause Check (map (λ t. t.items) texts.now))) }
+{
+    let (first, second, trees) = three(texts);
+    let checked = check(alloc, first, second, trees)?;
+    let verdict = if checked.accepted {
+        Verdict::Done
+    } else {
+        Verdict::No
+    };
+    Ok(Answer {
+        verdict,
+        text: checked.text,
+    })
 }
 
 /// The answer to a request, from the texts of its files.
@@ -76,11 +92,20 @@ fn answer_to(alloc: Global, request: &Request<'_>, texts: &[Vec<u8>]) -> Result<
     ensures text { IfOk result (λ a. IsText (task request.now) a.verdict (map (λ t. t.items) texts.now) a.text.items) }
     ensures cause { IfErr result (FailsBy (IsCause (task request.now) (map (λ t. t.items) texts.now))) }
 {
-    let text = done_text(alloc, request, texts)?;
-    Ok(Answer {
-        verdict: Verdict::Done,
-        text,
-    })
+    match request {
+        Request::Compile => Ok(Answer::done(compile(alloc, only(texts))?)),
+        Request::Eval(times) => Ok(Answer::done(eval(alloc, only(texts), times.as_slice())?)),
+        Request::Synth => Ok(Answer::done(synth(alloc, only(texts))?)),
+        Request::Tabulate(name, window) => {
+            let text = tabulate(alloc, only(texts), name.as_bytes(), *window)?;
+            Ok(Answer::done(text))
+        }
+        Request::Sim(cycles, times) => {
+            let text = sim(alloc, only(texts), *cycles, times.as_slice())?;
+            Ok(Answer::done(text))
+        }
+        Request::Check => check_answer(alloc, texts),
+    }
 }
 
 /// The answer to a command, from the files that it names.

@@ -13,6 +13,8 @@ pub enum Request<'a> {
     Tabulate(&'a str, u32),
     /// Simulate its module for so many cycles, with inputs that rise at these times.
     Sim(u32, Times),
+    /// Check by the trees of the third file that the networks of the first two have equal outputs.
+    Check,
 }
 
 /// A parsed command line: the words that name its files, and what is to be done with them.

@@ -6,7 +6,7 @@ ghost use Rattle.rl_flow.specs.Status.{code_of};
 pub enum Status {
     /// Done.
     Done,
-    /// The answer is no. No command of this version gives it.
+    /// The answer is no.
     No,
     /// The words are no command.
     Words,

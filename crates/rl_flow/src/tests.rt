@@ -1,4 +1,5 @@
 use crate::message::line;
+use crate::module_tests::TAPS_MODULE;
 use crate::refusal::Refusal;
 use crate::running::run;
 use crate::status::Status;
@@ -77,12 +78,10 @@ const DELAYS_MODULE: &[u8] = b"module race(clk, rst, in_a, out_y, out_z);
   input in_a;
   output out_y;
   output out_z;
-  reg r0;
-  reg r1;
-  assign out_y = r0;
-  assign out_z = r1;
-  always @(posedge clk) if (rst) r0 <= 1'b0; else r0 <= in_a;
-  always @(posedge clk) if (rst) r1 <= 1'b0; else r1 <= r0;
+  reg [1:0] r0;
+  assign out_y = r0[0];
+  assign out_z = r0[1];
+  always @(posedge clk) if (rst) r0 <= 2'b0; else r0 <= {r0[0:0], in_a};
 endmodule
 ";
 
@@ -94,14 +93,12 @@ const FIRST_MODULE: &[u8] = b"module race(clk, rst, in_a, in_b, out_y);
   input in_b;
   output out_y;
   wire w0;
-  reg r0;
+  reg [1:0] r0;
   reg r1;
-  reg r2;
-  assign w0 = r2 | (r1 & ~in_b);
+  assign w0 = r1 | (r0[1] & ~in_b);
   assign out_y = w0;
-  always @(posedge clk) if (rst) r0 <= 1'b0; else r0 <= in_a;
-  always @(posedge clk) if (rst) r1 <= 1'b0; else r1 <= r0;
-  always @(posedge clk) if (rst) r2 <= 1'b0; else r2 <= w0;
+  always @(posedge clk) if (rst) r0 <= 2'b0; else r0 <= {r0[0:0], in_a};
+  always @(posedge clk) if (rst) r1 <= 1'b0; else r1 <= w0;
 endmodule
 ";
 
@@ -154,8 +151,22 @@ pub fn expect(
     outside: &Outside,
     want: (Status, &[u8], &[u8]),
 ) -> Result<(), Fail> {
+    expect_on(rt, alloc, &[("f", file)], words, outside, want)
+}
+
+// The same over a shelf that holds these files.
+pub fn expect_on(
+    rt: &impl Abort,
+    alloc: Global,
+    shelf: &[(&str, &[u8])],
+    words: &[&str],
+    outside: &Outside,
+    want: (Status, &[u8], &[u8]),
+) -> Result<(), Fail> {
     let mut files = Vec::new(alloc);
-    files.push((String::from_str(alloc, "f")?, file.to_vec(alloc)?))?;
+    for (name, file) in shelf {
+        files.push((String::from_str(alloc, name)?, file.to_vec(alloc)?))?;
+    }
     let fetch_fails = outside.fetch_fails.to_vec(alloc)?;
     let put_fails = outside.put_fails.to_vec(alloc)?;
     assert!(rt; are_distinct(&files));
@@ -212,7 +223,9 @@ fn compiles_networks_to_modules(rt: HostRuntime) -> Result<(), Fail> {
     expect_module(&rt, alloc, twice, TWICE_MODULE)?;
     expect_module(&rt, alloc, race, RACE_MODULE)?;
     expect_module(&rt, alloc, never, NEVER_MODULE)?;
-    expect_module(&rt, alloc, delays, DELAYS_MODULE)
+    expect_module(&rt, alloc, delays, DELAYS_MODULE)?;
+    let taps = b"racenet 1\ninput a\noutput y = inc(a, 3)\noutput z = inc(a, 5)\n";
+    expect_module(&rt, alloc, taps, TAPS_MODULE)
 }
 
 #[test]
@@ -498,6 +511,10 @@ fn refuses_words(rt: HostRuntime) -> Result<(), Fail> {
     expect_usage(&rt, alloc, &[])?;
     expect_usage(&rt, alloc, &["compile"])?;
     expect_usage(&rt, alloc, &["f"])?;
+    expect_usage(&rt, alloc, &["check"])?;
+    expect_usage(&rt, alloc, &["check", "f", "f"])?;
+    expect_usage(&rt, alloc, &["check", "f", "f", "-f"])?;
+    expect_usage(&rt, alloc, &["check", "f", "f", "f", "f"])?;
     expect_usage(&rt, alloc, &["Compile", "f"])?;
     expect_usage(&rt, alloc, &["compile", ""])?;
     expect_usage(&rt, alloc, &["compile", "-f"])?;

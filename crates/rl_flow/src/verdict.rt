@@ -1,5 +1,6 @@
 ghost use Rattle.std.specs.Prelude.{◌≡◌};
 ghost use Rattle.rl_flow.specs.Status.{status_with};
+ghost use Rattle.rl_flow.specs.declared.verdict.Verdict.TheVariants.{Done};
 
 use crate::status::Status;
 
@@ -8,7 +9,7 @@ use crate::status::Status;
 pub enum Verdict {
     /// It is done.
     Done,
-    /// The answer is no. No command of this version gives it.
+    /// The answer is no: a tree isn't valid.
     No,
     /// The question stays open. No command of this version gives it.
     Undecided,
@@ -19,6 +20,19 @@ pub enum Verdict {
 pub struct Answer {
     pub verdict: Verdict,
     pub text: Vec<u8>,
+}
+
+impl Answer {
+    /// What is done, and this text is written.
+    pub fn done(text: Vec<u8>) -> Answer
+        ensures verdict { result.verdict ≡ Done }
+        ensures text { result.text ≡ text }
+    {
+        Answer {
+            verdict: Verdict::Done,
+            text,
+        }
+    }
 }
 
 impl Verdict {

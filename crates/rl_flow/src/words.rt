@@ -3,7 +3,7 @@ ghost use Rattle.std.specs.List.{list_all};
 ghost use Rattle.std.specs.Option.{option_map};
 ghost use Rattle.net_model.specs.Early.{IsAtMost};
 ghost use Rattle.rl_flow.specs.Words.{is_file_word, number_word, time_word, times_of, is_letter, is_name_byte, is_name_word, texts_of};
-ghost use Rattle.rl_flow.specs.Task.{alone, eval_task, tabulate_task, sim_task, task_of, command_of};
+ghost use Rattle.rl_flow.specs.Task.{alone, eval_task, tabulate_task, sim_task, task_of, check_command, of_one_file, command_of};
 ghost use Rattle.rl_flow.specs.Asked.{limits};
 ghost use Rattle.rl_flow.specs.Request.{task, IsSmall};
 
@@ -137,7 +137,7 @@ fn sim_request(words: &[String]) -> Option<Request<'_>>
     Some(Request::Sim(cycles as u32, read_times(words)?))
 }
 
-/// The request of a command's first word and of the words after its file.
+/// The request of the first word of a command with one file, and of the words after the file.
 fn request_of<'a>(command: &str, words: &'a [String]) -> Option<Request<'a>>
     ensures task { option_map task result ≡ task_of command.now (texts_of words.now) }
     ensures small { IfSome result IsSmall }
@@ -160,6 +160,53 @@ fn request_of<'a>(command: &str, words: &'a [String]) -> Option<Request<'a>>
     None
 }
 
+/// Parses the words `FILE FILE FILE` of the command `check`.
+#[tactic(auto, unfolding(crate::specs::Task::check_command))]
+fn check_command(words: &[String]) -> Option<Command<'_>>
+    ensures command { option_map (λ c. record { files = texts_of c.files.now; task = task c.request }) result
+        ≡ check_command (texts_of words.now) }
+    ensures small { IfSome result (λ c. IsSmall c.request) }
+    ensures each { IfSome result (λ c. length (limits (task c.request)) ≡ length c.files.now) }
+    ensures few { IfSome result (λ c. length c.files.now ≤ 3) }
+{
+    let [first, second, trees] = words else {
+        return None;
+    };
+    if is_file_word(first.as_str())
+        && is_file_word(second.as_str())
+        && is_file_word(trees.as_str())
+    {
+        Some(Command {
+            files: words,
+            request: Request::Check,
+        })
+    } else {
+        None
+    }
+}
+
+/// Parses the words after the first one of a command with one file.
+#[tactic(auto, unfolding(crate::specs::Task::of_one_file))]
+fn of_one_file<'a>(command: &str, words: &'a [String]) -> Option<Command<'a>>
+    ensures command { option_map (λ c. record { files = texts_of c.files.now; task = task c.request }) result
+        ≡ of_one_file command.now (texts_of words.now) }
+    ensures small { IfSome result (λ c. IsSmall c.request) }
+    ensures each { IfSome result (λ c. length (limits (task c.request)) ≡ length c.files.now) }
+    ensures few { IfSome result (λ c. length c.files.now ≤ 3) }
+{
+    let [file, rest @ ..] = words else {
+        return None;
+    };
+    if !is_file_word(file.as_str()) {
+        return None;
+    }
+    let request = request_of(command, rest)?;
+    Some(Command {
+        files: &words[..1],
+        request,
+    })
+}
+
 /// Parses the words of a command line. `None` for words that are no command.
 #[tactic(auto, unfolding(crate::specs::Task::command_of))]
 pub fn parse(words: &[String]) -> Option<Command<'_>>
@@ -169,15 +216,12 @@ pub fn parse(words: &[String]) -> Option<Command<'_>>
     ensures each { IfSome result (λ c. length (limits (task c.request)) ≡ length c.files.now) }
     ensures few { IfSome result (λ c. length c.files.now ≤ 3) }
 {
-    let [command, file, rest @ ..] = words else {
+    let [command, rest @ ..] = words else {
         return None;
     };
-    if !is_file_word(file.as_str()) {
-        return None;
+    if command.as_str() == "check" {
+        check_command(rest)
+    } else {
+        of_one_file(command.as_str(), rest)
     }
-    let request = request_of(command.as_str(), rest)?;
-    Some(Command {
-        files: &words[1..2],
-        request,
-    })
 }

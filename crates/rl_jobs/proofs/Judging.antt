@@ -331,6 +331,10 @@ tells f w n (fault.Module k r line) x = absurd x
 tells f w n (fault.TooManyBits k) x = absurd x
 tells f w n (fault.Inputs k) x = absurd x
 tells f w n fault.NoOutput x = absurd x
+tells f w n (fault.Trees k r line) x = absurd x
+tells f w n (fault.InputNames k) x = absurd x
+tells f w n (fault.OutputNames k) x = absurd x
+tells f w n fault.TreeNames x = absurd x
 
 one_table_fault : OneWindowCause → (f : List Time → Time) (w n : ℕ) (a b : Fault) → HasNoTable f w n a → HasNoTable f w n b → a ≡ b
 one_table_fault one f w n a b x y =

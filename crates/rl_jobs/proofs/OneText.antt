@@ -18,7 +18,7 @@ use Rattle.circuit.specs.Circuit.{Circuit}
 use Rattle.verilog_text.specs.Text.{module_text}
 use Rattle.gate_lower.specs.Netlist.{Netlist}
 use Rattle.gate_lower.specs.Lowered.{lowered}
-use Rattle.gate_lower.specs.Plain.{plain_module}
+use Rattle.gate_lower.specs.Tapped.{tapped_module}
 use Rattle.func_table.specs.Table.{Row, Table}
 use Rattle.func_table.specs.Text.{table_text}
 use Rattle.spike_eval.specs.Outputs.{output_function}
@@ -71,7 +71,7 @@ one_gates apart s g h x y =
     x.gates_are ∙ (ap (λ (rs : List Term). lowered (planted_source s) rs (inputs_of s) (outputs_of s)) roots ∙ sym y.gates_are)
 
 one_module : ApartLaw → (s : Source) (m n : Circuit) → IsCompiled s m → IsCompiled s n → m ≡ n
-one_module apart s m n x y = x.module_is ∙ (ap plain_module (one_gates apart s x.gates y.gates x.lowered y.lowered) ∙ sym y.module_is)
+one_module apart s m n x y = x.module_is ∙ (ap tapped_module (one_gates apart s x.gates y.gates x.lowered y.lowered) ∙ sym y.module_is)
 
 pub one_module_text : ((file : ℕ) → IsReading SpellsSource (IsNoSource file)) → ApartLaw →
     (bytes a b : List ℕ) → IsModuleText bytes a → IsModuleText bytes b → a ≡ b

@@ -8,7 +8,7 @@ use Rattle.term_store.specs.Tree.{Tree, value}
 use Rattle.term_store.specs.Subterms.{join_count, register_bits}
 use Rattle.circuit.specs.Circuit.{Circuit}
 use Rattle.circuit.specs.Circuit as circuit
-use Rattle.circuit.specs.Repeats.{HasNoRepeatedWire}
+use Rattle.circuit.specs.Repeats.{HasNoRepeatedGate}
 use Rattle.circuit.specs.Valid.{IsValid, IsOrdered}
 use Rattle.circuit.specs.Meaning.{State, IsSettled, Follows, IsHistory, HasOneHistory, levels_at, levels_from}
 use Rattle.gate_lower.specs.Netlist.{Output, Netlist}
@@ -78,9 +78,9 @@ each_cycle values c (suc n) (s ∷ ss) e h =
 
 pub realises : (ins outs : List (List ℕ)) (function : List Time → List Time) (trees : List Tree) (g : Netlist) (m : Circuit) → AreGatesOf ins outs trees g →
     ((x : List Time) → length x ≡ length ins → map (value x) trees ≡ function x) → m.inputs ≡ g.inputs → m.outputs ≡ output_names g.outputs → TimeIsLevel g m → IsValid m →
-    HasNoRepeatedWire m → length m.wires ≡ join_count trees → circuit.register_bits m ≡ register_bits trees →
+    HasNoRepeatedGate m → length m.wires ≡ join_count trees → circuit.register_bits m ≡ register_bits trees →
     ((m : Circuit) (us : List (List Bool)) → IsOrdered m → HasOneHistory m us) → Realises ins outs function trees m
-realises ins outs function trees g m gates values inputs outputs levels valid no_gate_twice wires bits law = record {
+realises ins outs function trees g m gates values inputs outputs levels valid no_repeated_gate wires bits law = record {
   inputs_are = inputs ∙ gates.inputs_are;
   outputs_are = outputs ∙ gates.outputs_are;
   one_history = λ x cycles. law m (levels_from x 0 cycles) valid.ordered;
@@ -94,7 +94,7 @@ realises ins outs function trees g m gates values inputs outputs levels valid no
       each_place f i s.outs g.outputs count (levels x timing.0 timing.1 timing.2 cycles states h i s e).outs ∙ ap (levels_at (map f g.outputs)) (sym same) in
       each_cycle (map f g.outputs) 0 cycles states (history_length m (levels_from x 0 cycles) states h ∙ length_levels x 0 cycles) right
       ∙ (ap (λ z. levels_from z 0 cycles) timing.3 ∙ ap (λ z. levels_from z 0 cycles) (values x one_each));
-  no_gate_twice = no_gate_twice;
+  no_repeated_gate = no_repeated_gate;
   wires = wires;
   bits = bits;
 }

@@ -13,12 +13,12 @@ use Rattle.minterm.specs.Minterms.{table_terms}
 use Rattle.circuit.specs.Circuit.{Circuit}
 use Rattle.circuit.specs.Circuit as circuit
 use Rattle.circuit.specs.Meaning.{State, IsHistory, HasOneHistory, levels_from}
-use Rattle.circuit.specs.Repeats.{HasNoRepeatedWire}
+use Rattle.circuit.specs.Repeats.{HasNoRepeatedGate}
 use Rattle.verilog_text.specs.Spelling.{SpellsModule}
 use Rattle.verilog_text.specs.Text.{module_text}
 use Rattle.gate_lower.specs.Netlist.{Netlist}
 use Rattle.gate_lower.specs.Lowered.{lowered}
-use Rattle.gate_lower.specs.Plain.{plain_module}
+use Rattle.gate_lower.specs.Tapped.{tapped_module}
 use Rattle.gate_lower.specs.Networks.{planted}
 use Rattle.rl_jobs.specs.declared.fault.Fault.{Fault}
 use Rattle.rl_jobs.specs.declared.fault.Fault.TheVariants as fault
@@ -29,15 +29,15 @@ use Rattle.rl_jobs.specs.Sources.{SpellsSource, IsNoSource, inputs_of, outputs_o
 -- The module does what a source of this function of the input times says, whose outputs have these terms. Its ports have the names of
 -- the source, in order. For all input times and every number of cycles after reset it has exactly one history, and in it the outputs
 -- have in each cycle the levels of wires that rise at the times that the function gives, of one time for each input: output k is high
--- in cycle t exactly where its value is at most t. No two wires are the same gate, each distinct min, max and lt of the terms has one
--- wire, and there are exactly the register bits that the terms need.
+-- in cycle t exactly where its value is at most t. No gate and no delay register is there twice, each distinct min, max and lt of the
+-- terms has one wire, and there are exactly the register bits that the terms need.
 pub record Realises (inputs outputs : List (List ℕ)) (function : List Time → List Time) (trees : List Tree) (m : Circuit) : Type 0 where
   pub inputs_are : m.inputs ≡ inputs
   pub outputs_are : m.outputs ≡ outputs
   pub one_history : (x : List Time) (cycles : ℕ) → HasOneHistory m (levels_from x 0 cycles)
   pub levels : (x : List Time) (cycles : ℕ) (states : List State) → length x ≡ length inputs → IsHistory m (levels_from x 0 cycles) states →
       map (λ s. s.outs) states ≡ levels_from (function x) 0 cycles
-  pub no_gate_twice : HasNoRepeatedWire m
+  pub no_repeated_gate : HasNoRepeatedGate m
   pub wires : length m.wires ≡ join_count trees
   pub bits : circuit.register_bits m ≡ register_bits trees
 
@@ -59,14 +59,14 @@ pub record AreSourceGates (s : Source) (g : Netlist) : Type 0 where
   pub roots_are : trees_at (planted_source s) roots ≡ terms_of s
   pub gates_are : g ≡ lowered (planted_source s) roots (inputs_of s) (outputs_of s)
 
--- the module of a source: its gates in the plain form of registers
+-- the module of a source: that of its gates, with a shift register for each delay
 pub record IsCompiled (s : Source) (m : Circuit) : Type 0 where
   pub gates : Netlist
   pub lowered : AreSourceGates s gates
-  pub module_is : m ≡ plain_module gates
+  pub module_is : m ≡ tapped_module gates
 
 -- the bytes spell a source that needs no more register bits than a module may have, and the text is that of its module, which does
--- what the source says; the text spells this module and no other
+-- what the source says; the text spells this module and no other, and it is no longer than a module's file may be
 pub record IsModuleText (bytes text : List ℕ) : Type 0 where
   pub source : Source
   pub read : SpellsSource bytes source
@@ -76,6 +76,7 @@ pub record IsModuleText (bytes text : List ℕ) : Type 0 where
   pub written : text ≡ module_text compiled
   pub spells : SpellsModule text compiled
   pub no_other : (m : Circuit) → SpellsModule text m → m ≡ compiled
+  pub short : length text ≤ 16777216
   pub right : RealisesSource source compiled
 
 -- where the source is a network, it needs no more register bits than a module may have; no table needs more, by `table_terms_are_few`

@@ -4,3 +4,4 @@ pub mod Synthesised
 pub mod Windows
 pub mod Compiled
 pub mod Readings
+pub mod Checked

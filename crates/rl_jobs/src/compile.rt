@@ -1,6 +1,5 @@
 ghost use Rattle.std.specs.Prelude.{◌≡◌, ◌≤◌, ◌<◌, ◌∷◌, [], ℕ, length, IfOk, IfErr, OnOk, Err};
 ghost use Rattle.std.specs.List.{All};
-ghost use Rattle.net_model.specs.Rules.{names_of};
 ghost use Rattle.term_store.specs.Ports.{ArePorts};
 ghost use Rattle.term_store.specs.Subterms.{AreNetworkTerms, join_count, register_bits};
 ghost use Rattle.term_store.specs.Trees.{trees_at};
@@ -8,16 +7,17 @@ ghost use Rattle.gate_lower.specs.Rules as rules;
 ghost use Rattle.gate_lower.specs.Timing.{AreGatesOf};
 ghost use Rattle.gate_lower.specs.declared.lowering.LowerError.TheVariants.{TooManyBits};
 ghost use Rattle.circuit.specs.Depth.{IsShallow};
+ghost use Rattle.verilog_text.specs.Text.{module_text};
 ghost use Rattle.rl_jobs.specs.Sources.{IsSound, IsRuled, inputs_of, outputs_of, terms_of, FailsBy};
 ghost use Rattle.rl_jobs.specs.Compiled.{planted_source, AreSourceGates, RealisesSource, IsCompiled, IsModuleText, NeedsManyBits, IsNotCompiled};
 ghost use Rattle.rl_jobs.specs.declared.fault.Fault.TheVariants as fault;
 
 use crate::error::JobError;
 use crate::fault::Fault;
+use crate::names::{alone, names};
 use crate::source::Source;
 use gate_lower::{Gates, LowerError, emit, lower};
 use minterm::{table_names_are_ports, table_terms_are_few, the_term_has_the_tables_values};
-use net_model::Binding;
 use rl_text::Name;
 use rl_time::NoMemory;
 use std::alloc::Global;
@@ -26,26 +26,6 @@ use term_store::{
 };
 use verilog_laws::printing_spells;
 use verilog_text::{Module, laws, print_module, spelling_laws};
-
-/// A one-element list with a copy of the name.
-pub fn alone(alloc: Global, name: &Name) -> Result<Vec<Name>, NoMemory>
-    ensures one { IfOk result (λ names. names.items ≡ name.now ∷ []) }
-{
-    let mut names = Vec::new(alloc);
-    names.push(Name::new(alloc, name.bytes())?)?;
-    Ok(names)
-}
-
-/// The names of bindings, in order.
-fn names(alloc: Global, bindings: &[Binding]) -> Result<Vec<Name>, NoMemory>
-    ensures names { IfOk result (λ names. names.items ≡ names_of bindings.now) }
-{
-    let mut names = Vec::new(alloc);
-    for binding in bindings {
-        names.push(Name::new(alloc, binding.name().bytes())?)?;
-    }
-    Ok(names)
-}
 
 /// A source's names and terms are such as can be lowered. No table needs more register bits than a module may have.
 fn sources_can_be_lowered()
@@ -114,6 +94,7 @@ impl Source {
         ensures is { IfOk result (IsCompiled self.now) }
         ensures right { IfOk result (RealisesSource self.now) }
         ensures shallow { IfOk result IsShallow }
+        ensures short { IfOk result (λ m. length (module_text m) ≤ 16777216) }
         ensures few { IfOk result (λ m. register_bits (terms_of self.now) ≤ 65536) }
         ensures too_many { (bits : ℕ) → result ≡ Err (TooManyBits bits) → NeedsManyBits self.now (fault.TooManyBits bits) }
     {

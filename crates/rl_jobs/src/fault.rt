@@ -12,6 +12,14 @@ pub enum Fault {
     Rows(u8, RowFault),
     /// The text of this file is no module: the rule that it breaks first, and the line, from 1 (E70 to E74).
     Module(u8, verilog_text::Rule, u32),
+    /// The text of this file is no list of trees: the rule that it breaks first, and the line, from 1 (E60 to E63).
+    Trees(u8, refutation::Rule, u32),
+    /// The names of the networks' inputs differ first at this place, from 1 (E50).
+    InputNames(u64),
+    /// The names of the networks' outputs differ first at this place, from 1 (E50).
+    OutputNames(u64),
+    /// The trees are not those of the networks' outputs, in their order (E53).
+    TreeNames,
     /// The terms of a network need so many register bits, more than 65,536 (E20).
     TooManyBits(u64),
     /// There are so many inputs, and the number of times is another (E51).

@@ -3,6 +3,8 @@
 ghost use Rattle.std.specs.Prelude.{◌≡◌, ℕ, List, length};
 ghost use Rattle.rl_time.specs.declared.time.Time.{Time};
 ghost use Rattle.net_lang.specs.Spelling.{SpellsNetwork};
+ghost use Rattle.refutation.specs.Spelling.{SpellsTrees};
+ghost use Rattle.rl_jobs.specs.Checked.{ThreeTexts, AreNoTrees, SpellClaim, Agree, AreNotChecked, IsAcceptedText, IsRefusedText};
 ghost use Rattle.rl_jobs.specs.Compiled.{HasFewBits, IsModuleText, IsNotCompiled};
 ghost use Rattle.rl_jobs.specs.Readings.{IsReading};
 ghost use Rattle.rl_jobs.specs.Sources.{IsNoNetwork, SpellsSoundTable, IsNoTable, SpellsSource, IsNoSource, inputs_of};
@@ -13,8 +15,10 @@ ghost use Rattle.rl_jobs.specs.Windows.{IsWindowText, CanBeWritten, IsNotTabulat
 use causality::{a_window_or_a_cause, one_row_fault, one_window_cause, sound_or_fault};
 use func_table;
 use net_lang;
+use refutation;
 use rl_text::{a_first_word_or_none, one_first_word};
 use term_store::no_two_places_alike;
+use tree_check::valid_or_fault;
 
 /// Reading networks, in the file of any number.
 pub fn reading_networks()
@@ -24,6 +28,16 @@ pub fn reading_networks()
     net_lang::no_cause();
     net_lang::one_cause();
     net_lang::a_network_or_a_cause();
+}
+
+/// Reading trees, in the file of any number.
+pub fn reading_trees()
+    ensures { (file : ℕ) → IsReading SpellsTrees (AreNoTrees file) }
+{
+    refutation::one_list_of_trees();
+    refutation::no_cause();
+    refutation::one_cause();
+    refutation::trees_or_a_cause();
 }
 
 /// Reading tables of sound rows.
@@ -109,4 +123,22 @@ pub fn tabulating()
     reading_networks();
     one_window_cause();
     a_window_or_a_cause();
+}
+
+/// What `check` can be done with, and why not.
+pub fn checking()
+    ensures { IsReading (λ texts c. SpellClaim texts c × Agree c) AreNotChecked }
+{
+    reading_networks();
+    reading_trees();
+}
+
+/// Three texts are accepted or refused with at most one text, and never both.
+pub fn one_check_text()
+    ensures accepted { (texts : ThreeTexts) (a b : List ℕ) → IsAcceptedText texts a → IsAcceptedText texts b → a ≡ b }
+    ensures refused { (texts : ThreeTexts) (a b : List ℕ) → IsRefusedText texts a → IsRefusedText texts b → a ≡ b }
+    ensures never_both { (texts : ThreeTexts) (a b : List ℕ) → IsAcceptedText texts a → IsRefusedText texts b → ⊥ }
+{
+    checking();
+    valid_or_fault();
 }

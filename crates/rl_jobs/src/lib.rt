@@ -4,11 +4,13 @@
 //! `NoMemory` is answered if memory ran out.
 #![tactic(auto)]
 
+pub mod check;
 pub mod compile;
 mod error;
 pub mod eval;
 mod fault;
 pub mod laws;
+mod names;
 mod reading;
 mod source;
 pub mod synth;

@@ -4,8 +4,8 @@ ghost use Rattle.net_model.specs.Text.{network_text};
 ghost use Rattle.rl_jobs.specs.Sources.{FailsBy};
 ghost use Rattle.rl_jobs.specs.Synthesised.{IsSynthesised, IsSynthesisText, IsNotSynthesised};
 
-use crate::compile::alone;
 use crate::error::JobError;
+use crate::names::alone;
 use crate::reading::read_table_of;
 use func_table::Table;
 use minterm::table_names_are_ports;

@@ -9,4 +9,5 @@ returns c =
       synthesising = c.synthesising.ensures;
       tabulating = c.tabulating.ensures;
       simulating = c.simulating.ensures;
+      checking = c.checking.ensures;
     })

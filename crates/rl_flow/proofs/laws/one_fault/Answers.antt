@@ -9,6 +9,7 @@ returns-clause-one c =
       synthesising = c.synthesising.ensures;
       tabulating = c.tabulating.ensures;
       simulating = c.simulating.ensures;
+      checking = c.checking.ensures;
     })
 
 pub returns-clause-none : goal.returns-clause-none
@@ -19,4 +20,5 @@ returns-clause-none c =
       synthesising = c.synthesising.ensures;
       tabulating = c.tabulating.ensures;
       simulating = c.simulating.ensures;
+      checking = c.checking.ensures;
     })

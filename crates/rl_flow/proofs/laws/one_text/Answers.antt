@@ -9,4 +9,6 @@ returns c =
       networks = c.one_synthesis_text.ensures;
       windows = c.one_window_text.ensures;
       levels = c.one_level_text.ensures;
+      accepted = c.one_check_text.ensures.accepted;
+      refused = c.one_check_text.ensures.refused;
     })

@@ -1,4 +1,4 @@
-use Rattle.std.proofs.Common.{◌≡◌, List, ℕ, subst, sym}
+use Rattle.std.proofs.Common.{◌≡◌, ◌≤◌, List, ℕ, length, subst, sym}
 use Rattle.verilog_text.specs.Spelling.{SpellsModule}
 use Rattle.verilog_text.specs.Text.{module_text}
 use Rattle.rl_jobs.proofs.compile.compile.Goals as goal
@@ -18,5 +18,6 @@ returns-clause-text c =
       written = written;
       spells = spells;
       no_other = λ n s. c.one_module.ensures text n m s spells;
+      short = subst (λ (t : List ℕ). length t ≤ 16777216) (sym written) c.in-Ok.ensures.short;
       right = c.in-Ok.ensures.right;
     }

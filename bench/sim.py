@@ -1,0 +1,142 @@
+#!/usr/bin/env python3
+"""Measures `racelog sim` on modules, beside iverilog and verilator where they are installed.
+
+    python3 bench/sim.py PROGRAM [SIZE ..]
+
+PROGRAM is the built racelog. For each SIZE (1,024, 4,096 and 16,384 operators where none are given) it compiles the network of
+bench.py and simulates the module for 64 and for 100,000 cycles; then two modules of the largest SIZE: `toggles`, in which
+every register and every wire changes in each cycle, and `long`, one shift register of 65,536 bits.
+
+It prints the least seconds of five runs (of one, where that takes over 5 s), the most memory in MiB, and memory in bytes for each
+byte of the module's text. For a peer it prints the seconds to build and to run the same module with the same inputs, and whether
+all levels are the same. verilator is run with a C++ main of its own at -O3, which prints the levels of each cycle. A peer that
+takes over LIMIT seconds to build is given as `-`.
+"""
+import os
+import shutil
+import subprocess
+import sys
+import tempfile
+import time
+
+import bench
+
+LIMIT = 300
+FEW, MANY = 64, 100000
+
+
+def toggles(size):
+    """A module in which all registers and wires change in each cycle."""
+    ports = "".join("  %s;\n" % port for port in ("input clk", "input rst", "input in_a", "output out_y"))
+    wires, regs = size // 2, size - size // 2
+    lines = ["module race(clk, rst, in_a, out_y);\n" + ports[:-1]]
+    lines += ["  wire w%d;" % k for k in range(wires)]
+    lines += ["  reg r%d;" % k for k in range(regs)]
+    lines += ["  assign out_y = w%d;" % (wires - 1), "  assign w0 = ~r0;"]
+    lines += ["  assign w%d = ~w%d & ~r%d | ~w%d & ~r%d;" % (k, k - 1, k, k - 1, k) if k % 2 else
+              "  assign w%d = ~r%d & ~w%d;" % (k, k, k - 1) for k in range(1, wires)]
+    lines += ["  always @(posedge clk) if (rst) r%d <= 1'b0; else r%d <= ~r%d;" % (k, k, k) for k in range(regs)]
+    return "\n".join(lines + ["endmodule", ""])
+
+
+def long_network():
+    return "racenet 1\ninput a\noutput y = inc(a, 65536)\n"
+
+
+def main_program(inputs, outputs, rises, cycles):
+    """A C++ main that drives the module and prints its outputs in each cycle, a line each."""
+    lines = ['#include "Vrace.h"', '#include "verilated.h"', "#include <cstdio>", "int main() {", "Vrace m;"]
+    lines += ["m.clk = 0; m.rst = 1;"] + ["m.in_%s = 0;" % name for name in inputs]
+    lines += ["m.eval(); m.clk = 1; m.eval(); m.clk = 0; m.eval(); m.rst = 0;", "for (long t = 0; t < %d; t++) {" % cycles]
+    lines += ["m.in_%s = t >= %sL;" % (name, rise) for name, rise in zip(inputs, rises) if rise != "never"]
+    lines += ["m.eval();"] + ["putchar('0' + m.out_%s);" % name for name in outputs] + ["putchar('\\n');"]
+    lines += ["m.clk = 1; m.eval(); m.clk = 0; m.eval();", "}", "return 0;", "}"]
+    return "\n".join(lines) + "\n"
+
+
+def test_bench(inputs, outputs, rises, cycles):
+    """The same as a module for iverilog."""
+    lines = ["module bench;", "reg clk = 0, rst = 1;"]
+    lines += ["reg a%d = 0;" % i for i in range(len(inputs))] + ["wire y%d;" % o for o in range(len(outputs))]
+    ports = [".clk(clk)", ".rst(rst)"] + [".in_%s(a%d)" % (n, i) for i, n in enumerate(inputs)]
+    ports += [".out_%s(y%d)" % (n, o) for o, n in enumerate(outputs)]
+    lines += ["race it(%s);" % ", ".join(ports), "integer t;", "initial begin", "#1 clk = 1; #1 clk = 0; rst = 0;"]
+    lines += ["for (t = 0; t < %d; t = t + 1) begin" % cycles]
+    lines += ["a%d = t >= %s;" % (i, rise) for i, rise in enumerate(rises) if rise != "never"]
+    lines += ['#1 $display("%s", %s); clk = 1; #1 clk = 0;' % ("%b" * len(outputs), ", ".join("y%d" % o for o in range(len(outputs))))]
+    return "\n".join(lines + ["end", "$finish;", "end", "endmodule", ""])
+
+
+def build(words, folder):
+    """The seconds that a build takes, or None where it takes too long or fails."""
+    begin = time.perf_counter()
+    try:
+        done = subprocess.run(words, cwd=folder, timeout=LIMIT, stdout=subprocess.DEVNULL, stderr=subprocess.DEVNULL)
+    except subprocess.TimeoutExpired:
+        return None
+    return time.perf_counter() - begin if done.returncode == 0 else None
+
+
+def same_levels(ours, theirs, cycles):
+    with open(theirs) as f:
+        lines = [line.strip() for line in f if line.strip()]
+    with open(ours) as f:
+        rows = [line.split()[1] for line in f]
+    return len(lines) >= cycles and all("".join(row[t] for row in rows) == lines[t] for t in range(cycles))
+
+
+def peer(name, words, program, folder, ours, cycles):
+    """What is printed of a peer."""
+    seconds = build(words, folder)
+    if seconds is None:
+        return "  %s: build - " % name
+    theirs = os.path.join(folder, "levels." + name)
+    ran, _ = bench.run(program, theirs)
+    return "  %s: build %8.3f run %9.4f %s" % (name, seconds, ran, "same" if same_levels(ours, theirs, cycles) else "DIFFERENT")
+
+
+def measure(program, label, module, inputs, outputs, rises, cycles, folder):
+    levels = os.path.join(folder, "levels")
+    seconds, memory = bench.run([program, "sim", module, str(cycles)] + rises, levels)
+    size = os.path.getsize(module)
+    line = "%-14s %9d %7d  %8.4f  %s  %5.1f" % (label, size, cycles, seconds, bench.shown(memory), memory * 1048576 / size)
+    if shutil.which("iverilog"):
+        with open(os.path.join(folder, "bench.v"), "w") as to:
+            to.write(test_bench(inputs, outputs, rises, cycles))
+        line += peer("iverilog", ["iverilog", "-o", "made", "bench.v", module], ["vvp", "-n", os.path.join(folder, "made")], folder, levels, cycles)
+    if shutil.which("verilator"):
+        with open(os.path.join(folder, "main.cpp"), "w") as to:
+            to.write(main_program(inputs, outputs, rises, cycles))
+        shutil.rmtree(os.path.join(folder, "obj_dir"), ignore_errors=True)
+        words = ["verilator", "--cc", "--exe", "--build", "-O3", "-CFLAGS", "-O3", "-Wno-fatal", "--top-module", "race", "main.cpp", module]
+        line += peer("verilator", words, [os.path.join(folder, "obj_dir", "Vrace")], folder, levels, cycles)
+    print(line, flush=True)
+
+
+def main():
+    program = os.path.abspath(sys.argv[1])
+    sizes = [int(word) for word in sys.argv[2:]] or [1024, 4096, 16384]
+    print("module             bytes  cycles   seconds     MiB  MiB a MiB of text")
+    with tempfile.TemporaryDirectory() as folder:
+        module = os.path.join(folder, "module.v")
+        network = os.path.join(folder, "network")
+        names = ["a%d" % i for i in range(bench.INPUTS)], ["y%d" % o for o in range(bench.OUTPUTS)]
+        for size in sizes:
+            with open(network, "w") as to:
+                to.write(bench.network(size))
+            bench.run([program, "compile", network], module)
+            for cycles in (FEW, MANY):
+                measure(program, "network %d" % size, module, names[0], names[1], bench.times(), cycles, folder)
+        with open(module, "w") as to:
+            to.write(toggles(max(sizes)))
+        for cycles in (FEW, 10000):
+            measure(program, "toggles", module, ["a"], ["y"], ["3"], cycles, folder)
+        with open(network, "w") as to:
+            to.write(long_network())
+        bench.run([program, "compile", network], module)
+        for cycles in (FEW, MANY):
+            measure(program, "long", module, ["a"], ["y"], ["3"], cycles, folder)
+
+
+if __name__ == "__main__":
+    main()

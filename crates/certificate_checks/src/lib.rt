@@ -1,0 +1,7 @@
+//! Tests of the public calls on trees of cases and on bounds of differences, against answers known from elsewhere. It has no code of its own.
+#![tactic(auto)]
+
+#[cfg(test)]
+mod differences;
+#[cfg(test)]
+mod trees;
