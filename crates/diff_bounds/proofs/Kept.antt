@@ -82,14 +82,15 @@ chain_is none all rest p r = r ∙ ap (λ none. none ++ rest) p
 pub if_none : {A : Type 0} {P : Type 0} (o : Option A) → o ≡ None → IfNone o P → P
 if_none {A} {P} o q h = subst (λ (o : Option A). IfNone o P) q h
 
-pub searched : (n : ℕ) (edges : List Assumption) (ys : List ℕ) (s : Search) (ds vs ts : List ℕ) (target limit : ℕ)
-    → s.distances.items ≡ ds → s.vias.items ≡ vs → s.turns.items ≡ ts → length ds ≡ n → length vs ≡ n → length ts ≡ n
+pub searched : (n : ℕ) (edges : List Assumption) (ys : List ℕ) (s : Search) (ds vs ts xs : List ℕ) (target limit : ℕ)
+    → s.distances.items ≡ ds → s.vias.items ≡ vs → s.turns.items ≡ ts → s.reached.items ≡ xs
+    → length ds ≡ n → length vs ≡ n → length ts ≡ n → length xs ≡ n
     → IsFound n edges (of ys) (of ds) target limit
     → ((l : ℕ) → l < n → (get_or ts l 0 < n) ⊎ (limit ≤ get_or ds l 0))
-    → (turn : ℕ) × ((k : ℕ) × IsRunning n edges (of ys) (of ds) (of vs) (of ts) turn target limit k (length edges))
+    → (turn : ℕ) × ((k : ℕ) × IsRunning n edges (of ys) (of ds) (of vs) (of ts) turn target limit k 0)
     → IsSearched n edges ys s target limit
-searched n edges ys s ds vs ts target limit p q r long_d long_v long_t found settled running = record {
-  sized = record { distances = ap length p ∙ long_d; vias = ap length q ∙ long_v; turns = ap length r ∙ long_t };
+searched n edges ys s ds vs ts xs target limit p q r o long_d long_v long_t long_x found settled running = record {
+  sized = record { distances = ap length p ∙ long_d; vias = ap length q ∙ long_v; turns = ap length r ∙ long_t; reached = ap length o ∙ long_x };
   found = subst (λ ds. IsFound n edges (of ys) (of ds) target limit) (sym p) found;
   settled = subst (λ ds. (l : ℕ) → l < n → (get_or s.turns.items l 0 < n) ⊎ (limit ≤ get_or ds l 0)) (sym p)
       (subst (λ ts. (l : ℕ) → l < n → (get_or ts l 0 < n) ⊎ (limit ≤ get_or ds l 0)) (sym r) settled);
@@ -97,9 +98,9 @@ searched n edges ys s ds vs ts target limit p q r long_d long_v long_t found set
     running.0,
     (
       running.1.0,
-      subst (λ ds. IsRunning n edges (of ys) (of ds) (of s.vias.items) (of s.turns.items) running.0 target limit running.1.0 (length edges)) (sym p)
-          (subst (λ vs. IsRunning n edges (of ys) (of ds) (of vs) (of s.turns.items) running.0 target limit running.1.0 (length edges)) (sym q)
-          (subst (λ ts. IsRunning n edges (of ys) (of ds) (of vs) (of ts) running.0 target limit running.1.0 (length edges)) (sym r) running.1.1)),
+      subst (λ ds. IsRunning n edges (of ys) (of ds) (of s.vias.items) (of s.turns.items) running.0 target limit running.1.0 0) (sym p)
+          (subst (λ vs. IsRunning n edges (of ys) (of ds) (of vs) (of s.turns.items) running.0 target limit running.1.0 0) (sym q)
+          (subst (λ ts. IsRunning n edges (of ys) (of ds) (of vs) (of ts) running.0 target limit running.1.0 0) (sym r) running.1.1)),
     ),
   );
 }

@@ -54,12 +54,12 @@ pub mended : (n : ℕ) (edges : List Assumption) (y d : ℕ → ℕ) (i j need :
     → (pos (y i) -ℤ pos (y j)) ≡ (w +ℤ pos need) → need ≤ d j → MeetsAll (raised y d) (edges ++ assumption i j w ∷ [])
 mended n edges y d i j need w f is le = meets_more (raised y d) edges (assumption i j w) f.meets (let z = f.here in omega (arith, ints, is, le, z))
 
-at_more : (edges : List Assumption) (a : Assumption) (k : ℕ) → k < length edges → at (edges ++ a ∷ []) k ≡ at edges k
+pub at_more : (edges : List Assumption) (a : Assumption) (k : ℕ) → k < length edges → at (edges ++ a ∷ []) k ≡ at edges k
 at_more [] a k h = absurd (omega arith)
 at_more (b ∷ edges) a zero h = refl
 at_more (b ∷ edges) a (suc k) h = at_more edges a k (omega arith)
 
-at_new : (edges : List Assumption) (a : Assumption) → at (edges ++ a ∷ []) (length edges) ≡ a
+pub at_new : (edges : List Assumption) (a : Assumption) → at (edges ++ a ∷ []) (length edges) ≡ a
 at_new [] a = refl
 at_new (b ∷ edges) a = at_new edges a
 

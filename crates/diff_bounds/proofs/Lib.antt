@@ -4,6 +4,8 @@ pub mod Ending
 pub mod Least
 pub mod Unbounded
 pub mod Steps
+pub mod Listed
+pub mod Opening
 pub mod Kept
 pub mod Answering
 pub mod Cycles

@@ -1,19 +1,19 @@
 -- The steps of a search keep what it rests on, and at its end the kept solution, raised, is one.
-use Rattle.std.proofs.Common.{◌≡◌, ◌≢◌, ℕ, zero, suc, ◌<◌, ◌≤◌, ◌+◌, refl, ap, subst, arith, sym, ◌∙◌, List, [], ◌∷◌, inl, inr, ◌⊎◌, length}
+use Rattle.std.proofs.Common.{◌≡◌, ℕ, zero, suc, ◌<◌, ◌≤◌, ◌+◌, refl, ap, subst, arith, sym, ◌∙◌, List, [], ◌∷◌, inl, inr, ◌⊎◌, length}
 use Rattle.std.specs.Prelude.{if◌then◌else◌, pos, ◌+ℤ◌, ◌-ℤ◌, ◌≤ℤ◌, nat_lt}
 use Rattle.std.proofs.lemmas.Int.{ints}
 use Rattle.std.proofs.lemmas.Bool.Decides.{nat_tests}
 use Rattle.refutation.specs.declared.assumption.Assumption.{Assumption}
 use Rattle.refutation.specs.Path.{Meets, at}
-use Rattle.diff_bounds.specs.Search.{raised, IsStep, IsRunning, AreMet, IsRelaxed, of, unset}
+use Rattle.diff_bounds.specs.Search.{raised, IsStep, IsRunning, AreMet, IsLast, IsRelaxed, of, unset}
 
 pub same_or : (a b : ℕ) → (a ≡ b) ⊎ ((a < b) ⊎ (b < a))
 same_or a b = grind arith
 
--- the assumption e is met already, or leads elsewhere
-pub skip : (n : ℕ) (edges : List Assumption) (y d v t : ℕ → ℕ) (turn target limit k e : ℕ) → IsRunning n edges y d v t turn target limit k e
-    → ((at edges e).to < k) ⊎ ((k < (at edges e).to) ⊎ Meets (raised y d) (at edges e)) → IsRunning n edges y d v t turn target limit k (e + 1)
-skip n edges y d v t turn target limit k e r met = record {
+-- the assumptions from h to e are met already, or lead elsewhere
+pub skip : (n : ℕ) (edges : List Assumption) (y d v t : ℕ → ℕ) (turn target limit k e h : ℕ) → IsRunning n edges y d v t turn target limit k e
+    → ((f : ℕ) → h ≤ f → f < e → (at edges f).to ≡ k → Meets (raised y d) (at edges f)) → IsRunning n edges y d v t turn target limit k h
+skip n edges y d v t turn target limit k e h r met = record {
   here = r.here;
   most = r.most;
   order = r.order;
@@ -21,22 +21,18 @@ skip n edges y d v t turn target limit k e r met = record {
   steps = r.steps;
   late = r.late;
   turns = r.turns;
-  closed = λ f h. elim (r.closed f h) [
+  closed = λ f hf. elim (r.closed f hf) [
     | inl a ↦ inl a
     | inr (inr m) ↦ inr (inr m)
-    | inr (inl p) ↦ elim (same_or e f) [
-      | inl q ↦ subst (λ (f : ℕ). (n ≤ t (at edges f).to) ⊎ ((((at edges f).to ≡ k) × (e + 1 ≤ f)) ⊎ Meets (raised y d) (at edges f))) q (at_e (subst (λ (f : ℕ). (at edges f).to ≡ k) (sym q) p.0) met)
-      | inr (inl lt) ↦ inr (inl (p.0, omega arith))
-      | inr (inr gt) ↦ let le = p.1 in absurd (omega (arith, gt, le))
+    | inr (inl p) ↦ elim (below f h) [
+      | inl lt ↦ inr (inl (p.0, lt))
+      | inr le ↦ inr (inr (met f le p.1 p.0))
     ]
   ];
 }
   where
-    at_e : (at edges e).to ≡ k → ((at edges e).to < k) ⊎ ((k < (at edges e).to) ⊎ Meets (raised y d) (at edges e))
-        → (n ≤ t (at edges e).to) ⊎ ((((at edges e).to ≡ k) × (e + 1 ≤ e)) ⊎ Meets (raised y d) (at edges e))
-    at_e is (inl lt) = absurd (omega (arith, lt, is))
-    at_e is (inr (inl gt)) = absurd (omega (arith, gt, is))
-    at_e is (inr (inr m)) = inr (inr m)
+    below : (a b : ℕ) → (a < b) ⊎ (b ≤ a)
+    below a b = grind arith
 
 -- e leads to k, and its beginning a is lowered to what it allows
 record IsLoweredTo (edges : List Assumption) (y d v d' v' : ℕ → ℕ) (a k e : ℕ) : Type 0 where
@@ -46,8 +42,8 @@ record IsLoweredTo (edges : List Assumption) (y d v d' v' : ℕ → ℕ) (a k e 
   exact : raised y d' a ≡ ((at edges e).bound +ℤ raised y d k)
 
 lower_at : (n : ℕ) (edges : List Assumption) (y d v t d' v' : ℕ → ℕ) (turn target limit a k e : ℕ) → AreMet n edges y
-    → IsRunning n edges y d v t turn target limit k e → k < n → t k < n → e < length edges → (at edges e).from ≡ a → (at edges e).to ≡ k
-    → IsLoweredTo edges y d v d' v' a k e → IsRunning n edges y d' v' t turn target limit k (e + 1)
+    → IsRunning n edges y d v t turn target limit k (e + 1) → k < n → t k < n → e < length edges → (at edges e).from ≡ a → (at edges e).to ≡ k
+    → IsLoweredTo edges y d v d' v' a k e → IsRunning n edges y d' v' t turn target limit k e
 lower_at n edges y d v t d' v' turn target limit a k e met r hk settled he from to low = record {
   here = same target target_not ∙ r.here;
   most = λ l h. elim (low.others l) [ inl q ↦ let m = r.most l h in let s = less_at l q in omega (arith, m, s) | inr s ↦ let m = r.most l h in let i = s.0 in omega (arith, m, i) ];
@@ -61,8 +57,8 @@ lower_at n edges y d v t d' v' turn target limit a k e met r hk settled he from 
     | inr (inr m) ↦ keeps f h m
     | inr (inl p) ↦ elim (same_or e f) [
       | inl q ↦ inr (inr (subst (λ (f : ℕ). Meets (raised y d') (at edges f)) q at_e))
-      | inr (inl lt) ↦ inr (inl (p.0, omega arith))
-      | inr (inr gt) ↦ let le = p.1 in absurd (omega (arith, gt, le))
+      | inr (inl lt) ↦ let le = p.1 in absurd (omega (arith, lt, le))
+      | inr (inr gt) ↦ inr (inl (p.0, gt))
     ]
   ];
   steps = λ l h. elim (low.others l) [
@@ -148,7 +144,7 @@ lower_at n edges y d v t d' v' turn target limit a k e met r hk settled he from 
     lowers : (l : ℕ) → d' l ≤ d l
     lowers l = elim (low.others l) [ inl q ↦ let s = less_at l q in omega (arith, s) | inr s ↦ let i = s.0 in omega (arith, i) ]
 
-    keeps : (f : ℕ) → f < length edges → Meets (raised y d) (at edges f) → (n ≤ t (at edges f).to) ⊎ ((((at edges f).to ≡ k) × (e + 1 ≤ f)) ⊎ Meets (raised y d') (at edges f))
+    keeps : (f : ℕ) → f < length edges → Meets (raised y d) (at edges f) → (n ≤ t (at edges f).to) ⊎ ((((at edges f).to ≡ k) × (f < e)) ⊎ Meets (raised y d') (at edges f))
     keeps f h m = let b = (at edges f).to in let hb = (met f h).1.0 in elim (r.late b hb) [
       | inr i ↦ inl (omega (arith, i))
       | inl lt ↦ let ts = r.turns in let i = same b (settled_not b hb (omega (arith, lt, ts))) in let g = lowers (at edges f).from in inr (inr (omega (arith, ints, m, i, g)))
@@ -156,10 +152,10 @@ lower_at n edges y d v t d' v' turn target limit a k e met r hk settled he from 
 
 -- k, the nearest that is not settled, is settled
 pub settle : (n : ℕ) (edges : List Assumption) (y d v t t' : ℕ → ℕ) (turn target limit k0 k : ℕ) → AreMet n edges y
-    → IsRunning n edges y d v t turn target limit k0 (length edges) → k < n → n ≤ t k → turn < n
+    → IsRunning n edges y d v t turn target limit k0 0 → k < n → n ≤ t k → turn < n
     → ((l : ℕ) → l < n → n ≤ t l → d k ≤ d l)
     → t' k ≡ turn → ((l : ℕ) → (l ≡ k) ⊎ (t' l ≡ t l))
-    → IsRunning n edges y d v t' (turn + 1) target limit k 0
+    → IsRunning n edges y d v t' (turn + 1) target limit k (length edges)
 settle n edges y d v t t' turn target limit k0 k met r hk unset few nearest new others = record {
   here = r.here;
   most = r.most;
@@ -172,10 +168,10 @@ settle n edges y d v t t' turn target limit k0 k met r hk unset few nearest new 
     | inr i ↦ r.order a k ha hk (omega (arith, i, ta)) unset
   ];
   closed = λ f h. elim (others (at edges f).to) [
-    | inl q ↦ inr (inl (q, omega arith))
+    | inl q ↦ inr (inl (q, h))
     | inr i ↦ elim (r.closed f h) [
       | inl u ↦ inl (omega (arith, i, u))
-      | inr (inl p) ↦ let le = p.1 in absurd (omega (arith, h, le))
+      | inr (inl p) ↦ let lt = p.1 in absurd (omega (arith, lt))
       | inr (inr m) ↦ inr (inr m)
     ]
   ];
@@ -211,32 +207,31 @@ settle n edges y d v t t' turn target limit k0 k met r hk unset few nearest new 
 
 -- the assumption e, which leads to k, was looked at
 pub relaxed : (n : ℕ) (edges : List Assumption) (y : ℕ → ℕ) (t : ℕ → ℕ) (ds vs ds' vs' : List ℕ) (turn target limit k e : ℕ) → AreMet n edges y
-    → IsRunning n edges y (of ds) (of vs) t turn target limit k e → t k < n → e < length edges → (at edges e).to ≡ k
-    → IsRelaxed y ds vs ds' vs' (at edges e) e → IsRunning n edges y (of ds') (of vs') t turn target limit k (e + 1)
+    → IsRunning n edges y (of ds) (of vs) t turn target limit k (e + 1) → t k < n → e < length edges → (at edges e).to ≡ k
+    → IsRelaxed y ds vs ds' vs' (at edges e) e → IsRunning n edges y (of ds') (of vs') t turn target limit k e
 relaxed n edges y t ds vs ds' vs' turn target limit k e met r settled he to (inl same) =
-    subst (λ ds'. IsRunning n edges y (of ds') (of vs') t turn target limit k (e + 1)) (sym same.0)
-    (subst (λ vs'. IsRunning n edges y (of ds) (of vs') t turn target limit k (e + 1)) (sym same.1.0)
-    (skip n edges y (of ds) (of vs) t turn target limit k e r (inr (inr same.1.1))))
+    subst (λ ds'. IsRunning n edges y (of ds') (of vs') t turn target limit k e) (sym same.0)
+    (subst (λ vs'. IsRunning n edges y (of ds) (of vs') t turn target limit k e) (sym same.1.0)
+    (skip n edges y (of ds) (of vs) t turn target limit k (e + 1) e r (λ f le lt to. subst (λ (f : ℕ). Meets (raised y (of ds)) (at edges f)) (only f le lt) same.1.1)))
+  where
+    only : (f : ℕ) → e ≤ f → f < e + 1 → e ≡ f
+    only f le lt = omega (arith, le, lt)
 relaxed n edges y t ds vs ds' vs' turn target limit k e met r settled he to (inr low) =
     lower_at n edges y (of ds) (of vs) t (of ds') (of vs') turn target limit (at edges e).from k e met r (subst (λ (k : ℕ). k < n) to (met e he).1.0) settled he refl to
     (record { others = low.others; less = low.less; via = low.via; exact = subst (λ (k : ℕ). raised y (of ds') (at edges e).from ≡ ((at edges e).bound +ℤ raised y (of ds) k)) to low.exact })
 
--- one that leads elsewhere
-pub passed : (n : ℕ) (edges : List Assumption) (y d v t : ℕ → ℕ) (turn target limit k e : ℕ) → IsRunning n edges y d v t turn target limit k e
-    → (at edges e).to ≢ k → IsRunning n edges y d v t turn target limit k (e + 1)
-passed n edges y d v t turn target limit k e r other = skip n edges y d v t turn target limit k e r (elim (same_or (at edges e).to k) [
-  | inl i ↦ absurd (other i)
-  | inr (inl lt) ↦ inl lt
-  | inr (inr gt) ↦ inr (inl gt)
-])
+-- those between the last before e that leads to k, and e, lead elsewhere
+pub passed : (n : ℕ) (edges : List Assumption) (y d v t : ℕ → ℕ) (turn target limit k e h : ℕ) → IsRunning n edges y d v t turn target limit k e
+    → IsLast edges k e h → IsRunning n edges y d v t turn target limit k h
+passed n edges y d v t turn target limit k e h r last = skip n edges y d v t turn target limit k e h r (λ f le lt to. absurd (last.others f le lt to))
 
 abbrev pub marked : ℕ → ℕ → ℕ
 marked n t = if nat_lt t n then 0 else 1
 
-marked_set : (n t : ℕ) → t < n → marked n t ≡ 0
+pub marked_set : (n t : ℕ) → t < n → marked n t ≡ 0
 marked_set n t h = grind (arith, nat_tests)
 
-marked_unset : (n t : ℕ) → n ≤ t → marked n t ≡ 1
+pub marked_unset : (n t : ℕ) → n ≤ t → marked n t ≡ 1
 marked_unset n t h = grind (arith, nat_tests)
 
 pub unset_all : (n : ℕ) (ts : List ℕ) → unset n ts ≤ length ts
@@ -265,7 +260,7 @@ unset_less n (t ∷ ts) (u ∷ us) (suc k) long h was is same =
 
 -- the beginning of a search
 pub begun : (n : ℕ) (edges : List Assumption) (y d v t : ℕ → ℕ) (target limit : ℕ) → AreMet n edges y → d target ≡ 0 → ((l : ℕ) → l < n → t l ≡ n)
-    → ((l : ℕ) → l < n → (l ≡ target) ⊎ (d l ≡ limit)) → IsRunning n edges y d v t 0 target limit target (length edges)
+    → ((l : ℕ) → l < n → (l ≡ target) ⊎ (d l ≡ limit)) → IsRunning n edges y d v t 0 target limit target 0
 begun n edges y d v t target limit met here turns far = record {
   here = here;
   most = λ l h. elim (far l h) [ inl q ↦ subst (λ (l : ℕ). d l ≤ limit) (sym q) (omega (arith, here)) | inr e ↦ omega (arith, e) ];

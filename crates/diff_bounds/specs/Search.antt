@@ -2,6 +2,7 @@
 use Rattle.std.specs.Prelude.{◌≡◌, ℕ, ℤ, pos, ◌<◌, ◌≤◌, ◌+◌, ◌+ℤ◌, ◌-ℤ◌, ◌≤ℤ◌, true, List, [], ◌∷◌, length, get_or, nat_lt, if◌then◌else◌, ◌⊎◌}
 use Rattle.refutation.specs.declared.assumption.Assumption.{Assumption}
 use Rattle.refutation.specs.Path.{Meets, MeetsAll, at, runs, sum_of}
+use Rattle.diff_bounds.specs.declared.ends.Ends.{Ends}
 use Rattle.diff_bounds.specs.declared.search.Search.{Search}
 use Rattle.diff_bounds.specs.Bounds.{IsSolution}
 use Rattle.diff_bounds.specs.Pressing.{AreNear}
@@ -33,13 +34,13 @@ pub record IsStep (n : ℕ) (edges : List Assumption) (y d v t : ℕ → ℕ) (l
   pub exact : raised y d l ≡ (at edges (v l)).bound +ℤ raised y d (at edges (v l)).to
 
 -- in the middle of a search. An input is settled where its turn in t is below n; otherwise that is n.
--- k is the last settled, and the assumptions before number e are done for it
+-- k is the last settled, and the assumptions from number e on are done for it
 pub record IsRunning (n : ℕ) (edges : List Assumption) (y d v t : ℕ → ℕ) (turn target limit k e : ℕ) : Type 0 where
   pub here : d target ≡ 0
   pub most : (l : ℕ) → l < n → d l ≤ limit
   pub order : (a b : ℕ) → a < n → b < n → t a < n → n ≤ t b → d a ≤ d b
   pub top : (a : ℕ) → a < n → t a < n → d a ≤ d k
-  pub closed : (f : ℕ) → f < length edges → (n ≤ t (at edges f).to) ⊎ ((((at edges f).to ≡ k) × (e ≤ f)) ⊎ Meets (raised y d) (at edges f))
+  pub closed : (f : ℕ) → f < length edges → (n ≤ t (at edges f).to) ⊎ ((((at edges f).to ≡ k) × (f < e)) ⊎ Meets (raised y d) (at edges f))
   pub steps : (l : ℕ) → l < n → (l ≡ target) ⊎ ((limit ≤ d l) ⊎ IsStep n edges y d v t l)
   pub late : (l : ℕ) → l < n → (t l < turn) ⊎ (t l ≡ n)
   pub turns : turn ≤ n
@@ -52,7 +53,7 @@ of xs k = get_or xs k 0
 abbrev pub AreMet : ℕ → List Assumption → (ℕ → ℕ) → Type 0
 AreMet n edges y = (f : ℕ) → f < length edges → ((at edges f).from < n) × (((at edges f).to < n) × (((pos (y (at edges f).from) -ℤ pos (y (at edges f).to)) ≤ℤ (at edges f).bound) × ((at edges f).bound ≤ℤ pos 1000001)))
 
--- how many are not settled
+-- how many are not below n: turns of inputs that are not settled, or distances of inputs that are not reached
 abbrev pub unset : ℕ → List ℕ → ℕ
 unset n [] = 0
 unset n (t ∷ ts) = (if nat_lt t n then 0 else 1) + unset n ts
@@ -67,11 +68,37 @@ pub record IsLowered (y d v d' v' : ℕ → ℕ) (edge : Assumption) (e : ℕ) :
 abbrev pub IsRelaxed : (ℕ → ℕ) → List ℕ → List ℕ → List ℕ → List ℕ → Assumption → ℕ → Type 0
 IsRelaxed y ds vs ds' vs' edge e = ((ds' ≡ ds) × ((vs' ≡ vs) × Meets (raised y (of ds)) edge)) ⊎ IsLowered y (of ds) (of vs) (of ds') (of vs') edge e
 
+-- h is one more than the number of the last assumption before number e that leads to k; 0 where none does
+pub record IsLast (edges : List Assumption) (k e h : ℕ) : Type 0 where
+  pub before : h ≤ e
+  pub leads : (f : ℕ) → f + 1 ≡ h → (at edges f).to ≡ k
+  pub others : (f : ℕ) → h ≤ f → f < e → (at edges f).to ≡ k → ⊥
+
+-- for each of n inputs the last assumption that leads to it, and for each assumption the one before it that leads to the same
+pub record IsListed (n : ℕ) (edges : List Assumption) (ends : Ends) : Type 0 where
+  pub inputs : length ends.lasts.items ≡ n
+  pub numbers : length ends.earlier.items ≡ length edges
+  pub lasts : (k : ℕ) → k < n → IsLast edges k (length edges) (get_or ends.lasts.items k 0)
+  pub earlier : (e : ℕ) → e < length edges → IsLast edges (at edges e).to e (get_or ends.earlier.items e 0)
+
+-- the first numbers of the list are inputs, and each input that is reached and not settled is among them; there is room for all that are not reached
+pub record IsOpen (n : ℕ) (ds : List ℕ) (t : ℕ → ℕ) (limit : ℕ) (reached : List ℕ) (count : ℕ) : Type 0 where
+  pub room : count + unset limit ds ≤ n
+  pub inside : (i : ℕ) → i < count → get_or reached i 0 < n
+  pub has : (l : ℕ) → l < n → (t l < n) ⊎ ((limit ≤ get_or ds l 0) ⊎ ((i : ℕ) × ((i < count) × (get_or reached i 0 ≡ l))))
+
+-- k was put at the end if its distance fell below the limit
+abbrev pub IsOpened : ℕ → ℕ → ℕ → ℕ → ℕ → List ℕ → List ℕ → ℕ → Type 0
+IsOpened before after limit k count xs xs' count' =
+    ((limit ≤ before) × ((after < limit) × ((count' ≡ count + 1) × ((get_or xs' count 0 ≡ k) × ((i : ℕ) → (i ≡ count) ⊎ (get_or xs' i 0 ≡ get_or xs i 0))))))
+    ⊎ (((before < limit) ⊎ (limit ≤ after)) × ((count' ≡ count) × (xs' ≡ xs)))
+
 -- room for n inputs
 pub record IsSized (n : ℕ) (s : Search) : Type 0 where
   pub distances : length s.distances.items ≡ n
   pub vias : length s.vias.items ≡ n
   pub turns : length s.turns.items ≡ n
+  pub reached : length s.reached.items ≡ n
 
 -- n inputs, at most 65,536 assumptions on them, and a solution
 pub record IsBounds (n : ℕ) (edges : List Assumption) (ys : List ℕ) : Type 0 where
@@ -86,4 +113,4 @@ pub record IsSearched (n : ℕ) (edges : List Assumption) (ys : List ℕ) (s : S
   pub sized : IsSized n s
   pub found : IsFound n edges (of ys) (of s.distances.items) target limit
   pub settled : (l : ℕ) → l < n → (get_or s.turns.items l 0 < n) ⊎ (limit ≤ get_or s.distances.items l 0)
-  pub running : (turn : ℕ) × ((k : ℕ) × IsRunning n edges (of ys) (of s.distances.items) (of s.vias.items) (of s.turns.items) turn target limit k (length edges))
+  pub running : (turn : ℕ) × ((k : ℕ) × IsRunning n edges (of ys) (of s.distances.items) (of s.vias.items) (of s.turns.items) turn target limit k 0)

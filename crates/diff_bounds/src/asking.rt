@@ -1,8 +1,9 @@
 ghost use Rattle.std.specs.Prelude.{pos, ◌+ℤ◌, ◌-ℤ◌, ◌≡◌, ◌≤◌, ◌<◌, length, true, option_map, IfOk, IfSome};
 ghost use Rattle.refutation.specs.Path.{runs, sum_of};
 ghost use Rattle.diff_bounds.specs.Bounds.{IsLeast};
-ghost use Rattle.diff_bounds.specs.Search.{IsSized, IsBounds};
+ghost use Rattle.diff_bounds.specs.Search.{IsSized, IsBounds, IsListed};
 
+use crate::ends::Ends;
 use crate::following::follow;
 use crate::search::Search;
 use refutation::{Assumption, Chain};
@@ -28,6 +29,7 @@ fn difference(start: u64, distance: u64, end: u64) -> i64
 /// The least bound on x_i - x_j that the assumptions imply.
 pub(crate) fn least(
     edges: &[Assumption],
+    ends: &Ends,
     kept: &[u64],
     i: u32,
     j: u32,
@@ -36,12 +38,13 @@ pub(crate) fn least(
 ) -> Option<i64>
     requires sized { IsSized n search.old }
     requires bounds { IsBounds n edges.now kept.now }
+    requires listed { IsListed n edges.now ends.now }
     requires i_in { i < n }
     requires j_in { j < n }
     ensures least { IsLeast edges.now i j result }
     ensures sized { IsSized n search.new }
 {
-    search.run(edges, kept, j, FAR, n);
+    search.run(edges, ends, kept, j, FAR, n);
     let distance = search.distance(i);
     if distance < FAR {
         Some(difference(kept[i as usize], distance, kept[j as usize]))
@@ -54,6 +57,7 @@ pub(crate) fn least(
 pub(crate) fn shortest(
     alloc: Global,
     edges: &[Assumption],
+    ends: &Ends,
     kept: &[u64],
     i: u32,
     j: u32,
@@ -62,6 +66,7 @@ pub(crate) fn shortest(
 ) -> Result<Option<Chain>, NoMemory>
     requires sized { IsSized n search.old }
     requires bounds { IsBounds n edges.now kept.now }
+    requires listed { IsListed n edges.now ends.now }
     requires i_in { i < n }
     requires j_in { j < n }
     ensures least { IfOk result (λ found. IsLeast edges.now i j (option_map (sum_of edges.now) found)) }
@@ -69,7 +74,7 @@ pub(crate) fn shortest(
     ensures short { IfOk result (λ found. IfSome found (λ chain. length chain < n)) }
     ensures sized { IsSized n search.new }
 {
-    search.run(edges, kept, j, FAR, n);
+    search.run(edges, ends, kept, j, FAR, n);
     if search.distance(i) >= FAR {
         return Ok(None);
     }

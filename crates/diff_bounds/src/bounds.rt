@@ -6,6 +6,7 @@ ghost use Rattle.diff_bounds.specs.Verdict.{IsContradiction, IfContradiction, gr
 
 use crate::added::Added;
 use crate::asking::{least, shortest};
+use crate::ends::Ends;
 use crate::judging::{judge, keep};
 use crate::search::Search;
 use refutation::{Assumption, Chain};
@@ -20,6 +21,7 @@ pub struct Bounds {
     alloc: Global,
     inputs: u32,
     assumptions: Vec<Assumption>,
+    ends: Ends,
     kept: Vec<u64>,
     search: Search,
 }
@@ -31,9 +33,9 @@ impl Model for Bounds {
 
     ghost view = { λ b. record { inputs = b.inputs; assumptions = b.assumptions.items } };
 
-    ghost use Rattle.diff_bounds.specs.Search.{IsBounds, IsSized};
+    ghost use Rattle.diff_bounds.specs.Search.{IsBounds, IsListed, IsSized};
 
-    ghost invariant = { λ b. IsBounds b.inputs b.assumptions.items b.kept.items × IsSized b.inputs b.search };
+    ghost invariant = { λ b. IsBounds b.inputs b.assumptions.items b.kept.items × (IsListed b.inputs b.assumptions.items b.ends × IsSized b.inputs b.search) };
 }
 
 impl Bounds {
@@ -48,6 +50,7 @@ impl Bounds {
             alloc,
             inputs: n,
             assumptions: Vec::new(alloc),
+            ends: Ends::new(alloc, n)?,
             kept: vec![in alloc; 0; n as usize]?,
             search: Search::new(alloc, n)?,
         })
@@ -91,12 +94,19 @@ impl Bounds {
         let added = judge(
             self.alloc,
             &self.assumptions,
+            &self.ends,
             edge,
             &mut self.kept,
             self.inputs,
             &mut self.search,
         )?;
-        keep(&mut self.assumptions, edge, &added)?;
+        keep(
+            &mut self.assumptions,
+            &mut self.ends,
+            edge,
+            &added,
+            self.inputs,
+        )?;
         Ok(added)
     }
 
@@ -106,7 +116,9 @@ impl Bounds {
         ensures assumptions { self.new.assumptions ≡ take (length self.old.assumptions - 1) self.old.assumptions }
         ensures inputs { self.new.inputs ≡ self.old.inputs }
     {
-        let _ = self.assumptions.pop();
+        if let Some(edge) = self.assumptions.pop() {
+            self.ends.pop(&self.assumptions, edge, self.inputs);
+        }
     }
 
     /// The least w such that the assumptions imply `x_i - x_j <= w`, or `None` where they imply no bound.
@@ -118,6 +130,7 @@ impl Bounds {
     {
         least(
             &self.assumptions,
+            &self.ends,
             &self.kept,
             i,
             j,
@@ -139,6 +152,7 @@ impl Bounds {
         shortest(
             self.alloc,
             &self.assumptions,
+            &self.ends,
             &self.kept,
             i,
             j,

@@ -3,9 +3,10 @@ ghost use Rattle.refutation.specs.Path.{is_negative};
 ghost use Rattle.diff_bounds.specs.Bounds.{IsSolution, Implies};
 ghost use Rattle.diff_bounds.specs.Verdict.{IsVerdict, IfContradiction, grown};
 ghost use Rattle.diff_bounds.specs.Pressing.{IsNear};
-ghost use Rattle.diff_bounds.specs.Search.{IsSized, IsBounds, IsSearched};
+ghost use Rattle.diff_bounds.specs.Search.{IsSized, IsBounds, IsListed};
 
 use crate::added::Added;
+use crate::ends::Ends;
 use crate::following::follow;
 use crate::pressing::press;
 use crate::search::Search;
@@ -60,6 +61,7 @@ fn raise(kept: &mut [u64], distances: &[u64])
 /// Whether the assumptions imply one that the kept numbers meet.
 fn is_implied(
     edges: &[Assumption],
+    ends: &Ends,
     edge: Assumption,
     kept: &[u64],
     n: u32,
@@ -67,6 +69,7 @@ fn is_implied(
 ) -> bool
     requires sized { IsSized n search.old }
     requires bounds { IsBounds n edges.now kept.now }
+    requires listed { IsListed n edges.now ends.now }
     requires near { IsNear n edge }
     requires met { (pos (get_or kept.now edge.from 0) -ℤ pos (get_or kept.now edge.to 0)) ≤ℤ edge.bound }
     ensures implied { result ≡ true → Implies edges.now edge.from edge.to edge.bound }
@@ -74,7 +77,7 @@ fn is_implied(
     ensures sized { IsSized n search.new }
 {
     let room = room(edge, kept);
-    search.run(edges, kept, edge.to, room, n);
+    search.run(edges, ends, kept, edge.to, room, n);
     search.distance(edge.from) < room
 }
 
@@ -82,6 +85,7 @@ fn is_implied(
 fn mend(
     alloc: Global,
     edges: &[Assumption],
+    ends: &Ends,
     edge: Assumption,
     by: u64,
     kept: &mut [u64],
@@ -90,6 +94,7 @@ fn mend(
 ) -> Result<Option<Chain>, NoMemory>
     requires sized { IsSized n search.old }
     requires bounds { IsBounds n edges.now kept.old }
+    requires listed { IsListed n edges.now ends.now }
     requires near { IsNear n edge }
     requires by { (pos (get_or kept.old edge.from 0) -ℤ pos (get_or kept.old edge.to 0)) ≡ (edge.bound +ℤ pos by) }
     requires small { by ≤ 4000000000 }
@@ -100,7 +105,7 @@ fn mend(
     ensures unchanged { OnErr result (kept.new ≡ kept.old) }
     ensures sized { IsSized n search.new }
 {
-    search.run(edges, kept, edge.from, by, n);
+    search.run(edges, ends, kept, edge.from, by, n);
     if search.distance(edge.to) < by {
         let mut chain = Chain::new(alloc);
         chain.push(edges.len() as u32)?;
@@ -116,6 +121,7 @@ fn mend(
 pub(crate) fn judge(
     alloc: Global,
     edges: &[Assumption],
+    ends: &Ends,
     edge: Assumption,
     kept: &mut [u64],
     n: u32,
@@ -123,6 +129,7 @@ pub(crate) fn judge(
 ) -> Result<Added, NoMemory>
     requires sized { IsSized n search.old }
     requires bounds { IsBounds n edges.now kept.old }
+    requires listed { IsListed n edges.now ends.now }
     requires near { IsNear n edge }
     ensures verdict { IfOk result (λ added. IsVerdict edges.now edge.from edge.to edge.bound added) }
     ensures short { IfOk result (λ added. IfContradiction added (λ chain. length chain ≤ n)) }
@@ -132,30 +139,58 @@ pub(crate) fn judge(
 {
     let need = need(edge, kept);
     if need > 0 {
-        return match mend(alloc, edges, edge, need, kept, n, search)? {
+        return match mend(alloc, edges, ends, edge, need, kept, n, search)? {
             None => Ok(Added::Fresh),
             Some(chain) => Ok(Added::Contradiction(chain)),
         };
     }
-    if is_implied(edges, edge, kept, n, search) {
+    if is_implied(edges, ends, edge, kept, n, search) {
         Ok(Added::Held)
     } else {
         Ok(Added::Fresh)
     }
 }
 
+/// Puts an assumption at the end.
+fn put_last(
+    assumptions: &mut Vec<Assumption>,
+    ends: &mut Ends,
+    edge: Assumption,
+    n: u32,
+) -> Result<(), NoMemory>
+    requires listed { IsListed n assumptions.old.items ends.old }
+    requires to { edge.to < n }
+    requires room { length assumptions.old.items < 65536 }
+    ensures more { OnOk result (assumptions.new.items ≡ assumptions.old.items ++ edge ∷ []) }
+    ensures unchanged { OnErr result (assumptions.new.items ≡ assumptions.old.items) }
+    ensures listed { IsListed n assumptions.new.items ends.new }
+{
+    ends.push(assumptions, edge, n)?;
+    if assumptions.push(edge).is_err() {
+        ends.pop(assumptions, edge, n);
+        return Err(NoMemory);
+    }
+    Ok(())
+}
+
 /// Puts an assumption at the end, unless it is a contradiction.
 pub(crate) fn keep(
     assumptions: &mut Vec<Assumption>,
+    ends: &mut Ends,
     edge: Assumption,
     added: &Added,
+    n: u32,
 ) -> Result<(), NoMemory>
+    requires listed { IsListed n assumptions.old.items ends.old }
+    requires to { edge.to < n }
+    requires room { length assumptions.old.items < 65536 }
     ensures grown { OnOk result (assumptions.new.items ≡ grown assumptions.old.items edge.from edge.to edge.bound added.now) }
     ensures unchanged { OnErr result (assumptions.new.items ≡ assumptions.old.items) }
+    ensures listed { IsListed n assumptions.new.items ends.new }
 {
     match added {
-        Added::Fresh => assumptions.push(edge)?,
-        Added::Held => assumptions.push(edge)?,
+        Added::Fresh => put_last(assumptions, ends, edge, n)?,
+        Added::Held => put_last(assumptions, ends, edge, n)?,
         Added::Contradiction(_) => {}
     }
     Ok(())

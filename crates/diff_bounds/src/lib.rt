@@ -12,9 +12,11 @@
 mod added;
 mod asking;
 mod bounds;
+mod ends;
 mod following;
 mod judging;
 mod laws;
+mod listing;
 mod pressing;
 mod search;
 mod searching;

@@ -1,8 +1,9 @@
 /// What a search finds for each input: how far its number has to be raised for the sake of the target's, the
-/// assumption that asks for it, and in which turn it was settled.
+/// assumption that asks for it, and in which turn it was settled; and room for the inputs that are reached and not settled.
 #[derive(Drop)]
 pub(crate) struct Search {
     pub distances: Vec<u64>,
     pub vias: Vec<u32>,
     pub turns: Vec<u32>,
+    pub reached: Vec<u32>,
 }

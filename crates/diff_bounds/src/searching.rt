@@ -1,31 +1,42 @@
 ghost use Rattle.std.specs.Prelude.{◌≡◌, ◌≤◌, ◌<◌, ◌+◌, ◌⊎◌, ◌≤ℤ◌, ◌-ℤ◌, ◌+ℤ◌, pos, ℕ, length, get_or, IfSome, IfNone, IfOk, List};
 ghost use Rattle.refutation.specs.Path.{Meets, at};
-ghost use Rattle.diff_bounds.specs.Search.{raised, of, AreMet, IsFound, IsRunning, IsRelaxed, IsSized, IsBounds, IsSearched};
+ghost use Rattle.diff_bounds.specs.Search.{raised, of, AreMet, IsFound, IsRunning, IsRelaxed, IsSized, IsBounds, IsListed, IsOpen, IsOpened, IsSearched};
 
+use crate::ends::Ends;
 use crate::search::Search;
 use refutation::Assumption;
 use rl_time::NoMemory;
 use std::alloc::Global;
 
-/// The nearest input that is not settled and is below the limit.
-fn nearest(distances: &[u64], turns: &[u32], n: u32, limit: u64) -> Option<u32>
+/// The place of the nearest input that is reached and not settled.
+fn nearest(
+    reached: &[u32],
+    count: u32,
+    distances: &[u64],
+    turns: &[u32],
+    n: u32,
+    limit: u64,
+) -> Option<u32>
     requires distances { length distances.now ≡ n }
     requires turns { length turns.now ≡ n }
-    ensures there { IfSome result (λ k. k < n) }
-    ensures unset { IfSome result (λ k. n ≤ get_or turns.now k 0) }
-    ensures below { IfSome result (λ k. get_or distances.now k 0 < limit) }
-    ensures nearest { IfSome result (λ k. (l : ℕ) → l < n → (get_or turns.now l 0 < n) ⊎ (get_or distances.now k 0 ≤ get_or distances.now l 0)) }
+    requires reached { length reached.now ≡ n }
+    requires is_open { IsOpen n distances.now (of turns.now) limit reached.now count }
+    ensures there { IfSome result (λ place. place < count) }
+    ensures unset { IfSome result (λ place. n ≤ get_or turns.now (get_or reached.now place 0) 0) }
+    ensures below { IfSome result (λ place. get_or distances.now (get_or reached.now place 0) 0 < limit) }
+    ensures nearest { IfSome result (λ place. (l : ℕ) → l < n → (get_or turns.now l 0 < n) ⊎ (get_or distances.now (get_or reached.now place 0) 0 ≤ get_or distances.now l 0)) }
     ensures none { IfNone result ((l : ℕ) → l < n → (get_or turns.now l 0 < n) ⊎ (limit ≤ get_or distances.now l 0)) }
 {
     let mut found = None;
     let mut best = limit;
-    for k in 0..n {
+    for place in 0..count {
+        let k = reached[place as usize];
         let turn = turns[k as usize];
         let distance = distances[k as usize];
         if turn >= n {
             if distance < best {
                 best = distance;
-                found = Some(k);
+                found = Some(place);
             }
         }
     }
@@ -33,12 +44,12 @@ fn nearest(distances: &[u64], turns: &[u32], n: u32, limit: u64) -> Option<u32>
 }
 
 /// Writes a number at a place.
-fn put_turn(turns: &mut [u32], k: u32, turn: u32)
-    requires there { k < length turns.now }
-    ensures here { get_or turns.new k 0 ≡ turn }
-    ensures others { (l : ℕ) → (l ≡ k) ⊎ (get_or turns.new l 0 ≡ get_or turns.old l 0) }
+pub(crate) fn put_number(numbers: &mut [u32], k: u32, number: u32)
+    requires there { k < length numbers.now }
+    ensures here { get_or numbers.new k 0 ≡ number }
+    ensures others { (l : ℕ) → (l ≡ k) ⊎ (get_or numbers.new l 0 ≡ get_or numbers.old l 0) }
 {
-    turns[k as usize] = turn;
+    numbers[k as usize] = number;
 }
 
 /// Writes a number at a place.
@@ -82,37 +93,104 @@ fn relax(edge: Assumption, number: u32, kept: &[u64], distances: &mut [u64], via
     let reached = reach(edge, kept, distances);
     if reached < distances[edge.from as usize] {
         put_distance(distances, edge.from, reached);
-        put_turn(vias, edge.from, number);
+        put_number(vias, edge.from, number);
     }
 }
 
-/// Looks at each edge that leads to k.
+/// Puts an input at the end of those that are reached if its distance fell below the limit; gives how many they are.
+fn open_input(reached: &mut [u32], count: u32, k: u32, before: u64, after: u64, limit: u64) -> u32
+    requires room { limit ≤ before → count < length reached.now }
+    requires few { length reached.now ≤ 4294967295 }
+    ensures { IsOpened before after limit k count reached.old reached.new result }
+{
+    if before < limit || after >= limit {
+        return count;
+    }
+    put_number(reached, count, k);
+    count + 1
+}
+
+/// Looks at one edge, and opens its beginning if that is reached now; gives how many are open.
+fn visit(
+    edge: Assumption,
+    number: u32,
+    limit: u64,
+    kept: &[u64],
+    distances: &mut [u64],
+    vias: &mut [u32],
+    turns: &[u32],
+    reached: &mut [u32],
+    count: u32,
+) -> u32
+    requires from { edge.from < length kept.now }
+    requires to { edge.to < length kept.now }
+    requires few { length kept.now ≤ 64 }
+    requires long { length distances.now ≡ length kept.now }
+    requires vias { length vias.now ≡ length kept.now }
+    requires reached { length reached.now ≡ length kept.now }
+    requires met { (pos (get_or kept.now edge.from 0) -ℤ pos (get_or kept.now edge.to 0)) ≤ℤ edge.bound }
+    requires near { edge.bound ≤ℤ pos 1000001 }
+    requires small { (k : ℕ) → k < length kept.now → get_or kept.now k 0 ≤ 4000000000 }
+    requires room { (k : ℕ) → k < length kept.now → get_or distances.now k 0 ≤ 4000000000 }
+    requires is_open { IsOpen (length kept.now) distances.now (of turns.now) limit reached.now count }
+    ensures relaxed { IsRelaxed (of kept.now) distances.old vias.old distances.new vias.new edge number }
+    ensures is_open { IsOpen (length kept.now) distances.new (of turns.now) limit reached.new result }
+{
+    let _ = turns;
+    let before = distances[edge.from as usize];
+    relax(edge, number, kept, distances, vias);
+    let after = distances[edge.from as usize];
+    open_input(reached, count, edge.from, before, after, limit)
+}
+
+/// Looks at each edge that leads to k, the last first; gives how many inputs are open.
 fn relax_into(
     edges: &[Assumption],
+    ends: &Ends,
     k: u32,
     kept: &[u64],
     distances: &mut [u64],
     vias: &mut [u32],
     turns: &[u32],
-)
+    reached: &mut [u32],
+    count: u32,
+    limit: u64,
+) -> u32
     requires few { length edges.now ≤ 65536 }
+    requires few_inputs { length kept.now ≤ 64 }
+    requires listed { IsListed (length kept.now) edges.now ends.now }
+    requires there { k < length kept.now }
     requires long { length distances.now ≡ length kept.now }
     requires vias { length vias.now ≡ length kept.now }
     requires met { AreMet (length kept.now) edges.now (of kept.now) }
     requires small { (k : ℕ) → k < length kept.now → get_or kept.now k 0 ≤ 4000000000 }
     requires room { (k : ℕ) → k < length kept.now → get_or distances.now k 0 ≤ 4000000000 }
     requires settled { get_or turns.now k 0 < length kept.now }
-    ensures { (turn target limit : ℕ) → IsRunning (length kept.now) edges.now (of kept.now) (of distances.old) (of vias.old) (of turns.now) turn target limit k 0
-        → IsRunning (length kept.now) edges.now (of kept.now) (of distances.new) (of vias.new) (of turns.now) turn target limit k (length edges.now) }
+    requires reached { length reached.now ≡ length kept.now }
+    requires is_open { IsOpen (length kept.now) distances.now (of turns.now) limit reached.now count }
+    ensures is_open { IsOpen (length kept.now) distances.new (of turns.now) limit reached.new result }
+    ensures running { (turn target limit : ℕ) → IsRunning (length kept.now) edges.now (of kept.now) (of distances.old) (of vias.old) (of turns.now) turn target limit k (length edges.now)
+        → IsRunning (length kept.now) edges.now (of kept.now) (of distances.new) (of vias.new) (of turns.now) turn target limit k 0 }
 {
-    let _ = turns;
-    let mut number: u32 = 0;
-    for edge in edges {
-        if edge.to == k {
-            relax(*edge, number, kept, distances, vias);
-        }
-        number += 1;
+    let mut total = count;
+    let earlier = ends.earlier.as_slice();
+    let mut left = ends.lasts.as_slice()[k as usize];
+    while left > 0 {
+        let number = left - 1;
+        total = visit(
+            edges[number as usize],
+            number,
+            limit,
+            kept,
+            distances,
+            vias,
+            turns,
+            reached,
+            total,
+        );
+        left = earlier[number as usize];
     }
+    total
 }
 
 /// Writes the same number everywhere.
@@ -136,6 +214,7 @@ fn fill_turns(turns: &mut [u32], n: u32)
 /// Settles the inputs one after another, the nearest first, until none below the limit is left.
 fn settle_all(
     edges: &[Assumption],
+    ends: &Ends,
     kept: &[u64],
     target: u32,
     limit: u64,
@@ -143,24 +222,42 @@ fn settle_all(
     distances: &mut [u64],
     vias: &mut [u32],
     turns: &mut [u32],
+    reached: &mut [u32],
 )
     requires distances { length distances.now ≡ n }
     requires vias { length vias.now ≡ n }
     requires turns { length turns.now ≡ n }
+    requires reached { length reached.now ≡ n }
     requires bounds { IsBounds n edges.now kept.now }
+    requires listed { IsListed n edges.now ends.now }
     requires target { target < n }
     requires limit { limit ≤ 4000000000 }
     ensures found { IsFound n edges.now (of kept.now) (of distances.new) target limit }
     ensures settled { (l : ℕ) → l < n → (get_or turns.new l 0 < n) ⊎ (limit ≤ get_or distances.new l 0) }
-    ensures running { (turn : ℕ) × ((k : ℕ) × IsRunning n edges.now (of kept.now) (of distances.new) (of vias.new) (of turns.new) turn target limit k (length edges.now)) }
+    ensures running { (turn : ℕ) × ((k : ℕ) × IsRunning n edges.now (of kept.now) (of distances.new) (of vias.new) (of turns.new) turn target limit k 0) }
 {
     fill_distances(distances, limit);
     fill_turns(turns, n);
     put_distance(distances, target, 0);
+    let mut count = open_input(reached, 0, target, limit, 0, limit);
     let mut turn: u32 = 0;
-    while let Some(k) = nearest(distances, turns, n, limit) {
-        put_turn(turns, k, turn);
-        relax_into(edges, k, kept, distances, vias, turns);
+    while let Some(place) = nearest(reached, count, distances, turns, n, limit) {
+        let k = reached[place as usize];
+        let last = reached[(count - 1) as usize];
+        put_number(reached, place, last);
+        put_number(turns, k, turn);
+        count = relax_into(
+            edges,
+            ends,
+            k,
+            kept,
+            distances,
+            vias,
+            turns,
+            reached,
+            count - 1,
+            limit,
+        );
         turn += 1;
     }
 }
@@ -174,6 +271,7 @@ impl Search {
             distances: vec![in alloc; 0; n as usize]?,
             vias: vec![in alloc; 0; n as usize]?,
             turns: vec![in alloc; 0; n as usize]?,
+            reached: vec![in alloc; 0; n as usize]?,
         })
     }
 
@@ -189,6 +287,7 @@ impl Search {
     pub(crate) fn run(
         &mut self,
         edges: &[Assumption],
+        ends: &Ends,
         kept: &[u64],
         target: u32,
         limit: u64,
@@ -196,12 +295,14 @@ impl Search {
     )
         requires sized { IsSized n self.old }
         requires bounds { IsBounds n edges.now kept.now }
+        requires listed { IsListed n edges.now ends.now }
         requires target { target < n }
         requires limit { limit ≤ 4000000000 }
         ensures { IsSearched n edges.now kept.now self.new target limit }
     {
         settle_all(
             edges,
+            ends,
             kept,
             target,
             limit,
@@ -209,6 +310,7 @@ impl Search {
             &mut self.distances,
             &mut self.vias,
             &mut self.turns,
+            &mut self.reached,
         );
     }
 }

@@ -1,4 +1,4 @@
-use Rattle.std.proofs.Common.{◌≡◌, ◌<◌, ℕ, length, get_or, arith, ap, sym, subst, inl, inr}
+use Rattle.std.proofs.Common.{◌≡◌, ◌<◌, ℕ, get_or, arith, ap, sym, subst, inl, inr}
 use Rattle.refutation.specs.Path.{at}
 use Rattle.diff_bounds.specs.Search.{of}
 use Rattle.diff_bounds.proofs.Steps.{has_step, way_begins, way_goes_on, way_ends}
@@ -24,7 +24,7 @@ loop-at-preserved c =
     let l = c.loop-at.at in
     let run = c.requires.searched.running in
     let met = are_met n edges c.args.kept.now c.requires.bounds in
-    let step = has_step n edges y d v t run.0 c.args.target c.args.limit run.1.0 (length edges) l met run.1.1 c.loop-at.invariant.inside c.loop-at.invariant.low c.loop-at-test.true in
+    let step = has_step n edges y d v t run.0 c.args.target c.args.limit run.1.0 0 l met run.1.1 c.loop-at.invariant.inside c.loop-at.invariant.low c.loop-at-test.true in
     let e = get_or c.as_slice-vias.result.now l 0 in
     let via : v l ≡ e = ap (λ xs. get_or xs l 0) (sym c.as_slice-vias.ensures.value) in
     record {

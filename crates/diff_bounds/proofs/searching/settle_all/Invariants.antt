@@ -1,13 +1,14 @@
-use Rattle.std.proofs.Common.{◌≤◌, ◌+◌, ℕ, length}
-use Rattle.diff_bounds.specs.Search.{of, IsRunning, unset}
+use Rattle.std.proofs.Common.{◌≤◌, ◌+◌, ℕ}
+use Rattle.diff_bounds.specs.Search.{of, IsOpen, IsRunning, unset}
 use Rattle.diff_bounds.proofs.searching.settle_all.Given as goal
 
-abbrev pub invariant-loop-k : goal.invariant-loop-k
-invariant-loop-k l =
+abbrev pub invariant-loop-place : goal.invariant-loop-place
+invariant-loop-place l =
     record {
       few : l.turn + unset l.n l.turns ≤ l.n;
-      running : (k : ℕ) × IsRunning l.n l.edges (of l.kept) (of l.distances) (of l.vias) (of l.turns) l.turn l.target l.limit k (length l.edges);
+      is_open : IsOpen l.n l.distances (of l.turns) l.limit l.reached l.count;
+      running : (k : ℕ) × IsRunning l.n l.edges (of l.kept) (of l.distances) (of l.vias) (of l.turns) l.turn l.target l.limit k 0;
     }
 
-abbrev pub decreases-loop-k : goal.decreases-loop-k
-decreases-loop-k l = unset l.n l.turns
+abbrev pub decreases-loop-place : goal.decreases-loop-place
+decreases-loop-place l = unset l.n l.turns

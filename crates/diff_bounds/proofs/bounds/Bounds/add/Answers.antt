@@ -7,7 +7,7 @@ use Rattle.diff_bounds.specs.declared.added.Added.TheVariants as added
 use Rattle.diff_bounds.specs.Bounds.{System, more, CanBeMet, Implies, IsSolution, integers}
 use Rattle.diff_bounds.specs.Verdict.{IsContradiction, IfContradiction, IsVerdict, grown}
 use Rattle.diff_bounds.specs.Pressing.{IsNear}
-use Rattle.diff_bounds.specs.Search.{IsBounds, IsSized}
+use Rattle.diff_bounds.specs.Search.{IsBounds, IsListed, IsSized}
 use Rattle.diff_bounds.proofs.Answering.{fresh_exactly, held_exactly, contradiction_exactly, chain_of, same_bounds, grown_bounds}
 use Rattle.diff_bounds.proofs.bounds.Bounds.add.Goals as goal
 
@@ -56,10 +56,10 @@ invariant_of-self-in_err-keep c =
     let ys = c.judge.new.kept in
     let w = to_z w64 (of_z w64 c.args.w) in
     let kept = subst (λ edges. IsSolution s.inputs (grown edges c.args.i c.args.j w c.in_ok-added.added) ys) c.deref.ensures.value c.in_ok-added.ensures.kept in
-    subst (λ zs. IsBounds s.inputs c.keep.new.assumptions.items zs × IsSized s.inputs c.judge.new.search) (sym (with_items_is s.kept ys (c.judge.auto.kept ∙ c.deref_mut.ensures.len))) (
+    subst (λ zs. IsBounds s.inputs c.keep.new.assumptions.items zs × (IsListed s.inputs c.keep.new.assumptions.items c.keep.new.ends × IsSized s.inputs c.judge.new.search)) (sym (with_items_is s.kept ys (c.judge.auto.kept ∙ c.deref_mut.ensures.len))) (
       subst (λ edges. IsBounds s.inputs edges ys) (sym c.in_err-keep.ensures.unchanged)
           (same_bounds s.assumptions.items c.args.i c.args.j w s.inputs s.kept.items ys c.in_ok-added.added c.self.invariant.0 kept),
-      c.in_ok-added.ensures.sized,
+      (c.in_err-keep.ensures.listed, c.in_ok-added.ensures.sized),
     )
 
 pub invariant_of-self-2 : goal.invariant_of-self-2
@@ -77,8 +77,8 @@ invariant_of-self-2 c =
     let room = c.requires.room in
     let near : IsNear s.inputs (assumption c.args.i c.args.j w) = record { from = omega (arith, i, inputs); to = omega (arith, j, inputs); low = omega (arith, ints, is, low); high = omega (arith, ints, is, high) } in
     let kept = subst (λ edges. IsSolution s.inputs (grown edges c.args.i c.args.j w c.in_ok-added.added) ys) c.deref.ensures.value c.in_ok-added.ensures.kept in
-    subst (λ zs. IsBounds s.inputs c.keep.new.assumptions.items zs × IsSized s.inputs c.judge.new.search) (sym (with_items_is s.kept ys (c.judge.auto.kept ∙ c.deref_mut.ensures.len))) (
+    subst (λ zs. IsBounds s.inputs c.keep.new.assumptions.items zs × (IsListed s.inputs c.keep.new.assumptions.items c.keep.new.ends × IsSized s.inputs c.judge.new.search)) (sym (with_items_is s.kept ys (c.judge.auto.kept ∙ c.deref_mut.ensures.len))) (
       subst (λ edges. IsBounds s.inputs edges ys) (sym c.in_ok-keep.ensures.grown)
           (grown_bounds s.assumptions.items c.args.i c.args.j w s.inputs s.kept.items ys c.in_ok-added.added c.self.invariant.0 near (omega (arith, room, assumptions)) kept),
-      c.in_ok-added.ensures.sized,
+      (c.in_ok-keep.ensures.listed, c.in_ok-added.ensures.sized),
     )

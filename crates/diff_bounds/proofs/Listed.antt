@@ -1,0 +1,145 @@
+-- The assumptions by the input that each leads to, as one more is added, or the last is taken away.
+use Rattle.std.proofs.Common.{◌≡◌, ℕ, ◌<◌, ◌≤◌, ◌+◌, subst, arith, sym, ap, ◌∙◌, List, [], ◌∷◌, ◌++◌, inl, inr, ◌⊎◌, length, get_or}
+use Rattle.std.proofs.Math.Seq.{get_or-append_seam}
+use Rattle.std.proofs.lemmas.List.{get_or_append_left}
+use Rattle.refutation.specs.declared.assumption.Assumption.{Assumption}
+use Rattle.refutation.specs.Path.{at}
+use Rattle.diff_bounds.specs.declared.ends.Ends.{Ends}
+use Rattle.diff_bounds.specs.Search.{IsLast, IsListed}
+use Rattle.diff_bounds.proofs.Least.{at_more, at_new, length_more}
+use Rattle.diff_bounds.proofs.Steps.{length_last}
+
+pub none_listed : (n : ℕ) (ends : Ends) → length ends.lasts.items ≡ n → ((k : ℕ) → get_or ends.lasts.items k 0 ≡ 0) → length ends.earlier.items ≡ 0 → IsListed n [] ends
+none_listed n ends long none empty = record {
+  inputs = long;
+  numbers = empty;
+  lasts = λ k h. let z = none k in record {
+    before = omega (arith, z);
+    leads = λ f q. absurd (omega (arith, q, z));
+    others = λ f le lt to. omega (arith, lt);
+  };
+  earlier = λ e h. absurd (omega (arith, h));
+}
+
+module _ (edges : List Assumption) (a : Assumption) where
+  abbrev more : List Assumption
+  more = edges ++ a ∷ []
+
+  last_more : (k e h : ℕ) → e ≤ length edges → IsLast edges k e h → IsLast more k e h
+  last_more k e h within last = record {
+    before = last.before;
+    leads = λ f q. subst (λ b. b.to ≡ k) (sym (at_more edges a f (let le = last.before in omega (arith, q, le, within)))) (last.leads f q);
+    others = λ f le lt to. last.others f le lt (subst (λ b. b.to ≡ k) (at_more edges a f (omega (arith, lt, within))) to);
+  }
+
+  last_fewer : (k e h : ℕ) → e ≤ length edges → IsLast more k e h → IsLast edges k e h
+  last_fewer k e h within last = record {
+    before = last.before;
+    leads = λ f q. subst (λ b. b.to ≡ k) (at_more edges a f (let le = last.before in omega (arith, q, le, within))) (last.leads f q);
+    others = λ f le lt to. last.others f le lt (subst (λ b. b.to ≡ k) (sym (at_more edges a f (omega (arith, lt, within)))) to);
+  }
+
+  new_leads : (k f : ℕ) → f ≡ length edges → (at more f).to ≡ k → a.to ≡ k
+  new_leads k f q to = subst (λ b. b.to ≡ k) (at_new edges a) (subst (λ (f : ℕ). (at more f).to ≡ k) q to)
+
+  leads_new : (k f : ℕ) → f ≡ length edges → a.to ≡ k → (at more f).to ≡ k
+  leads_new k f q to = subst (λ (f : ℕ). (at more f).to ≡ k) (sym q) (subst (λ b. b.to ≡ k) (sym (at_new edges a)) to)
+
+  last_new : (k h : ℕ) → k ≡ a.to → h ≡ length edges + 1 → IsLast more k (length more) h
+  last_new k h is q = let long = length_more edges a in record {
+    before = omega (arith, long, q);
+    leads = λ f r. leads_new k f (omega (arith, r, q)) (sym is);
+    others = λ f le lt to. omega (arith, le, lt, long, q);
+  }
+
+  apart : (f : ℕ) → f < length edges + 1 → (f < length edges) ⊎ (f ≡ length edges)
+  apart f h = grind (arith, h)
+
+  last_other : (k h : ℕ) → (a.to ≡ k → ⊥) → IsLast edges k (length edges) h → IsLast more k (length more) h
+  last_other k h other last = let long = length_more edges a in let m = last_more k (length edges) h (omega arith) last in record {
+    before = let le = last.before in omega (arith, le, long);
+    leads = m.leads;
+    others = λ f le lt to. elim (apart f (omega (arith, lt, long))) [ inl less ↦ m.others f le less to | inr q ↦ other (new_leads k f q to) ];
+  }
+
+  last_before : (k h : ℕ) → (a.to ≡ k → ⊥) → IsLast more k (length more) h → IsLast edges k (length edges) h
+  last_before k h other last = let long = length_more edges a in last_fewer k (length edges) h (omega arith) (record {
+    before = elim (within h (let le = last.before in omega (arith, le, long))) [ inl le ↦ le | inr q ↦ absurd (other (new_leads k (length edges) (omega arith) (last.leads (length edges) (sym q)))) ];
+    leads = last.leads;
+    others = λ f le lt to. last.others f le (omega (arith, lt, long)) to;
+  })
+    where
+      within : (h : ℕ) → h ≤ length edges + 1 → (h ≤ length edges) ⊎ (h ≡ length edges + 1)
+      within h le = grind (arith, le)
+
+  same_or : (k : ℕ) → (k ≡ a.to) ⊎ (a.to ≡ k → ⊥)
+  same_or k = grind arith
+
+  pub more_listed : (n : ℕ) (old new : Ends) → IsListed n edges old → length new.lasts.items ≡ length old.lasts.items
+      → get_or new.lasts.items a.to 0 ≡ length edges + 1 → ((l : ℕ) → (l ≡ a.to) ⊎ (get_or new.lasts.items l 0 ≡ get_or old.lasts.items l 0))
+      → a.to < n → new.earlier.items ≡ old.earlier.items ++ get_or old.lasts.items a.to 0 ∷ [] → IsListed n more new
+  more_listed n old new s long here others to put = record {
+    inputs = long ∙ s.inputs;
+    numbers = numbers;
+    lasts = λ k h. elim (same_or k) [
+      | inl q ↦ last_new k (get_or new.lasts.items k 0) q (ap (λ (k : ℕ). get_or new.lasts.items k 0) q ∙ here)
+      | inr away ↦ elim (others k) [
+        | inl q ↦ absurd (away (sym q))
+        | inr i ↦ last_other k (get_or new.lasts.items k 0) away (subst (λ (h : ℕ). IsLast edges k (length edges) h) (sym i) (s.lasts k h))
+      ]
+    ];
+    earlier = λ e h. elim (apart e (let l = length_more edges a in omega (arith, h, l))) [ inl less ↦ before e less | inr q ↦ last e q ];
+  }
+    where
+      numbers : length new.earlier.items ≡ length more
+      numbers = ap length put ∙ (let l = length_more edges a in let m = s.numbers in let n = length_last old.earlier.items (get_or old.lasts.items a.to 0) in omega (arith, l, m, n))
+
+      before : (e : ℕ) → e < length edges → IsLast more (at more e).to e (get_or new.earlier.items e 0)
+      before e less =
+          subst (λ (b : Assumption). IsLast more b.to e (get_or new.earlier.items e 0)) (sym (at_more edges a e less))
+          (subst (λ (h : ℕ). IsLast more (at edges e).to e h) (sym (ap (λ xs. get_or xs e 0) put ∙ get_or_append_left old.earlier.items (get_or old.lasts.items a.to 0 ∷ []) 0 e (let m = s.numbers in omega (arith, m, less))))
+          (last_more (at edges e).to e (get_or old.earlier.items e 0) (omega (arith, less)) (s.earlier e less)))
+
+      seam : get_or new.earlier.items (length edges) 0 ≡ get_or old.lasts.items a.to 0
+      seam = ap (λ xs. get_or xs (length edges) 0) put ∙ subst (λ (m : ℕ). get_or (old.earlier.items ++ get_or old.lasts.items a.to 0 ∷ []) m 0 ≡ get_or old.lasts.items a.to 0) s.numbers
+          (get_or-append_seam old.earlier.items (get_or old.lasts.items a.to 0) [] 0)
+
+      last : (e : ℕ) → e ≡ length edges → IsLast more (at more e).to e (get_or new.earlier.items e 0)
+      last e q =
+          subst (λ (e : ℕ). IsLast more (at more e).to e (get_or new.earlier.items e 0)) (sym q)
+          (subst (λ (b : Assumption). IsLast more b.to (length edges) (get_or new.earlier.items (length edges) 0)) (sym (at_new edges a))
+          (subst (λ (h : ℕ). IsLast more a.to (length edges) h) (sym seam)
+          (last_more a.to (length edges) (get_or old.lasts.items a.to 0) (omega arith) (s.lasts a.to to))))
+
+  pub fewer_listed : (n h : ℕ) (old new : Ends) → IsListed n more old → length new.lasts.items ≡ length old.lasts.items
+      → get_or new.lasts.items a.to 0 ≡ h → ((l : ℕ) → (l ≡ a.to) ⊎ (get_or new.lasts.items l 0 ≡ get_or old.lasts.items l 0))
+      → old.earlier.items ≡ new.earlier.items ++ h ∷ [] → IsListed n edges new
+  fewer_listed n h old new s long here others put = record {
+    inputs = long ∙ s.inputs;
+    numbers = numbers;
+    lasts = λ k hk. elim (same_or k) [
+      | inl q ↦ subst (λ (k : ℕ). IsLast edges k (length edges) (get_or new.lasts.items k 0)) (sym q)
+          (subst (λ (h : ℕ). IsLast edges a.to (length edges) h) (sym here) end)
+      | inr away ↦ elim (others k) [
+        | inl q ↦ absurd (away (sym q))
+        | inr i ↦ last_before k (get_or new.lasts.items k 0) away (subst (λ (h : ℕ). IsLast more k (length more) h) (sym i) (s.lasts k hk))
+      ]
+    ];
+    earlier = λ e he.
+        last_fewer (at edges e).to e (get_or new.earlier.items e 0) (omega (arith, he))
+        (subst (λ (h : ℕ). IsLast more (at edges e).to e h) (ap (λ xs. get_or xs e 0) put ∙ get_or_append_left new.earlier.items (h ∷ []) 0 e (let m = numbers in omega (arith, m, he)))
+        (subst (λ (b : Assumption). IsLast more b.to e (get_or old.earlier.items e 0)) (at_more edges a e he)
+        (s.earlier e (let l = length_more edges a in omega (arith, l, he)))));
+  }
+    where
+      numbers : length new.earlier.items ≡ length edges
+      numbers = let l = length_more edges a in let m = s.numbers in let p = ap length put in let n = length_last new.earlier.items h in omega (arith, l, m, n, p)
+
+      seam : get_or old.earlier.items (length edges) 0 ≡ h
+      seam = ap (λ xs. get_or xs (length edges) 0) put ∙ subst (λ (m : ℕ). get_or (new.earlier.items ++ h ∷ []) m 0 ≡ h) numbers (get_or-append_seam new.earlier.items h [] 0)
+
+      end : IsLast edges a.to (length edges) h
+      end = last_fewer a.to (length edges) h (omega arith)
+          (subst (λ (h : ℕ). IsLast more a.to (length edges) h) seam
+          (subst (λ (b : Assumption). IsLast more b.to (length edges) (get_or old.earlier.items (length edges) 0)) (at_new edges a)
+          (s.earlier (length edges) (let l = length_more edges a in omega (arith, l)))))
