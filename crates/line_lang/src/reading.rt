@@ -4,7 +4,7 @@ ghost use Rattle.line_lang.specs.Language.{Language, IsRead};
 ghost use Rattle.line_lang.specs.Judging.{Gives, Judges, IsJudged, IsEnded, Answers};
 
 use crate::error::{Failure, LineError};
-use rl_text::{LineWords, Lines, Style, first_bad, line_at};
+use rl_text::{LineWords, Lines, first_bad, line_at};
 use std::alloc::Global;
 
 /// A reader of a language of lines, and what it keeps of the lines before.
@@ -99,7 +99,7 @@ pub fn read<'a, D: LineReader<'a>>(
     requires small { D.size draft ≡ 0 }
     ensures { Answers D.language text.now result }
 {
-    if let Some(place) = first_bad(text, Style::Race) {
+    if let Some(place) = first_bad(text) {
         return Err(Failure::Broken(D::syntax(), line_at(text, place)));
     }
     let mut draft = draft;

@@ -13,3 +13,5 @@ pub mod CursorLines
 pub mod FewLines
 pub mod WordTurns
 pub mod Capped
+pub mod Newlines
+pub mod Scanned

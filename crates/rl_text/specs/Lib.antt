@@ -9,5 +9,6 @@ pub mod Words
 pub mod First
 pub mod Writing
 pub mod Cursor
+pub mod Scan
 pub mod Laws
 pub mod NameMap

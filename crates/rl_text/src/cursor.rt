@@ -8,6 +8,7 @@ ghost use Rattle.rl_text.specs.Lines as spec_lines;
 ghost use Rattle.rl_text.specs.Words.{word, words};
 ghost use Rattle.rl_text.specs.Cursor.{HasTokens, lines_left, words_left, line_first, GivesWord, GivesLine};
 
+use crate::bytes::comment_bytes;
 use crate::cut::ends_line;
 use crate::front::front;
 use crate::token::Style;
@@ -16,26 +17,7 @@ use rl_time::NoMemory;
 use std::alloc::Global;
 use std::marker::Model;
 
-/// The first place of a text of at most 67,108,864 bytes at which there is no token, gap or comment of the style. It
-/// takes no memory. `None` where the text has tokens.
-pub fn first_bad(text: &[u8], style: Style) -> Option<u32>
-    requires { length text.now ≤ 67108864 }
-    ensures bad { MatchOption result (HasTokens style text.now) (λ place. IsBad style text.now place) }
-{
-    let mut rest = text;
-    let mut at: u32 = 0;
-    while !rest.is_empty() {
-        let Some((_, len)) = front(rest, style) else {
-            return Some(at);
-        };
-        let (_, after) = rest.split_at(len);
-        rest = after;
-        at += len as u32;
-    }
-    None
-}
-
-/// What is left of a text of style Race, seen as the lines that are still to come. They end where a place has no piece.
+/// What is left of a text of style Race, seen as the lines that are still to come.
 #[derive(Debug, Drop)]
 pub struct Lines<'a> {
     rest: &'a [u8],
@@ -47,13 +29,14 @@ impl<'a> Model for Lines<'a> {
 
     ghost view = { λ c. lines_left c.line c.rest.now };
 
-    ghost invariant = { λ c. c.line + length c.rest.now < 2 ^ 32 };
+    ghost invariant = { λ c. (c.line + length c.rest.now < 2 ^ 32) × HasTokens style.Race c.rest.now };
 }
 
 impl<'a> Lines<'a> {
-    /// The lines of a text of at most 67,108,864 bytes.
+    /// The lines of a text of at most 67,108,864 bytes that has tokens.
     pub fn new(text: &'a [u8]) -> Lines<'a>
-        requires { length text.now ≤ 67108864 }
+        requires short { length text.now ≤ 67108864 }
+        requires tokens { HasTokens style.Race text.now }
         ensures lines { (tokens : List Token) → AreTokens style.Race text.now tokens → result ≡ lines text.now tokens }
         ensures few { length result ≤ length text.now }
     {
@@ -135,22 +118,16 @@ impl<'a> LineWords<'a> {
     }
 }
 
-/// What follows the line that a text begins with. Nothing, where the line has a place at which no piece is.
+/// What follows the line that a text begins with.
 fn after_line(text: &[u8]) -> &[u8]
+    requires tokens { HasTokens style.Race text.now }
     requires few { length text.now < 2 ^ 32 }
     requires some { 0 < length text.now }
     ensures lines { (n : ℕ) → lines_left n text.now ≡ line_first n (words_left text.now) result.now }
+    ensures tokens { HasTokens style.Race result.now }
     ensures shorter { length result.now < length text.now }
 {
-    let mut rest = text;
-    while let Some((kind, len)) = front(rest, Style::Race) {
-        let (_, after) = rest.split_at(len);
-        rest = after;
-        if let Some(kind) = kind {
-            if ends_line(kind) {
-                return rest;
-            }
-        }
-    }
-    &[]
+    let end = (comment_bytes(text) + 1).min(text.len());
+    let (_, after) = text.split_at(end);
+    after
 }

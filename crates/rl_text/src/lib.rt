@@ -13,14 +13,16 @@ mod lexer;
 mod name;
 mod name_map;
 mod number;
+mod place;
 mod print;
 mod race;
+mod scan;
 mod token;
 mod verilog;
 mod words;
 
 pub use bytes::{is_digit, is_letter, is_name_byte};
-pub use cursor::{LineWords, Lines, first_bad};
+pub use cursor::{LineWords, Lines};
 pub use cut::{lexemes, line_at};
 pub use first::first_word;
 pub use laws::{
@@ -33,6 +35,7 @@ pub use name::{Name, are_name_bytes, copy_names, is_name, numbered_name};
 pub use name_map::NameMap;
 pub use number::capped_number;
 pub use print::{put, put_number};
+pub use scan::first_bad;
 pub use token::{Kind, LexError, Style, Token};
 pub use words::{Lexeme, Word};
 
