@@ -115,3 +115,18 @@ output v = never
     assert_eq!(rt; printed.as_slice(), lets.as_slice());
     Ok(())
 }
+
+#[test]
+fn what_no_root_reaches_goes(rt: HostRuntime) -> Result<(), Fail> {
+    let text = b"racenet 1\ninput a b\nlet m = min(a, b)\noutput y = inc(max(b, a), 2)\noutput z = b\n";
+    let n = read_network(rt.alloc(), text)?;
+    let mut store = Store::new(rt.alloc())?;
+    let roots = store.build(rt.alloc(), &n)?;
+    assert_eq!(rt; roots.as_slice(), [Term(4), Term(1)].as_slice());
+    let places = store.compact(rt.alloc(), &roots)?;
+    assert_eq!(rt; places.as_slice(), [Term(3), Term(1)].as_slice());
+    assert_eq!(rt; store.len(), 4);
+    assert_eq!(rt; store.node(Term(2)), Node::Max(Term(1), Term(0)));
+    assert_eq!(rt; store.node(Term(3)), Node::Inc(Term(2), 2));
+    Ok(())
+}

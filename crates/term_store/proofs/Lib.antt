@@ -23,3 +23,4 @@ pub mod ExtractedIs
 pub mod ListedPlaces
 pub mod Counted
 pub mod PutNode
+pub mod Moved

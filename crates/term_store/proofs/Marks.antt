@@ -150,7 +150,7 @@ complete ns ms (Inc a d) r i s c h hi e m g = elim g [
 set_new : (ms : List Bool) (r : ℕ) → r < length ms → marked (slice_set ms r true) r
 set_new ms r h = grind (arith, common_steps)
 
-operand_lower : (m k : ℕ) (n : Node) → IsNodeOver m n → IsOperand k n → k < m
+pub operand_lower : (m k : ℕ) (n : Node) → IsNodeOver m n → IsOperand k n → k < m
 operand_lower m k (node.Input i) o h = absurd h
 operand_lower m k node.Never o h = absurd h
 operand_lower m k (node.Min a b) o h = elim h [ inl e ↦ omega (arith, o.0) | inr e ↦ omega (arith, o.1) ]

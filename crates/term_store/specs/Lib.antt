@@ -11,3 +11,4 @@ pub mod Laws
 pub mod Ports
 pub mod Places
 pub mod Room
+pub mod Compacted

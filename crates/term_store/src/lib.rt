@@ -4,6 +4,7 @@
 #![tactic(auto)]
 
 mod build;
+mod compact;
 mod extract;
 mod laws;
 mod node;
