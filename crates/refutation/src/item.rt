@@ -5,12 +5,13 @@ use rl_time::NoMemory;
 use std::alloc::Global;
 use std::marker::Model;
 
-/// The claim that `x_from - x_to <= bound` follows from the assumptions that the chain names, in cycles.
+/// The claim that `x_from - x_to <= bound` follows from the assumptions that the chain names, in cycles. A file may have
+/// millions of facts, so each takes 40 bytes.
 #[derive(Debug, Drop)]
 pub struct Fact {
-    pub from: u32,
-    pub to: u32,
-    pub bound: i64,
+    pub from: u16,
+    pub to: u16,
+    pub bound: i32,
     pub chain: Chain,
 }
 

@@ -43,7 +43,12 @@ fn put_fact(text: &mut Vec<u8>, fact: &Fact) -> Result<(), NoMemory>
     ensures { OnOk result (text.new.items ≡ text.old.items ++ fact_text fact.now) }
 {
     put(text, b"fact ")?;
-    put_difference(text, fact.from, fact.to, fact.bound)?;
+    put_difference(
+        text,
+        u32::from(fact.from),
+        u32::from(fact.to),
+        i64::from(fact.bound),
+    )?;
     put(text, b" :")?;
     put_chain(text, fact.chain.numbers())?;
     put(text, b"\n")

@@ -53,7 +53,9 @@ fn bad_fact(path: &[Assumption], facts: &[Fact]) -> Option<u32>
 {
     let mut n: u32 = 0;
     for fact in facts {
-        if !shows(path, fact.chain.numbers(), fact.from, fact.to, fact.bound) {
+        let from = u32::from(fact.from);
+        let to = u32::from(fact.to);
+        if !shows(path, fact.chain.numbers(), from, to, i64::from(fact.bound)) {
             return Some(n);
         }
         n += 1;

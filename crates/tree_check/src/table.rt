@@ -94,11 +94,9 @@ fn enter_one(cells: &mut [Cell], stamp: u32, fact: &Fact)
 {
     let place = fact.from as usize * 64 + fact.to as usize;
     let cell = cells[place];
-    if cell.stamp == stamp && cell.bound <= fact.bound {
+    let bound = i64::from(fact.bound);
+    if cell.stamp == stamp && cell.bound <= bound {
         return;
     }
-    cells[place] = Cell {
-        stamp,
-        bound: fact.bound,
-    };
+    cells[place] = Cell { stamp, bound };
 }

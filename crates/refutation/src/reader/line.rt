@@ -1,11 +1,12 @@
 //! A line after the lines before.
-ghost use Rattle.std.specs.Prelude.{◌≡◌, ◌++◌, ◌∷◌, [], OnOk, IfOk};
+ghost use Rattle.std.specs.Prelude.{◌≡◌, ◌++◌, ◌∷◌, [], OnOk, IfOk, false};
 ghost use Rattle.line_lang.specs.Language.{IsRead};
 ghost use Rattle.line_lang.specs.Judging.{IsEnded};
 ghost use Rattle.refutation.specs.declared.reader.rules.Rule.TheVariants as rule;
 ghost use Rattle.refutation.specs.Forms as forms;
 ghost use Rattle.refutation.specs.FormReading.{form_at};
-ghost use Rattle.refutation.specs.LineRules.{SoFar, nothing_yet, all_items, with_item, after};
+ghost use Rattle.refutation.specs.LineRules.{SoFar, nothing_yet, all_items, with_item, after, breaks_range};
+ghost use Rattle.refutation.specs.Limits.{IsSmallDifference};
 ghost use Rattle.refutation.specs.Spelling.{trees};
 ghost use Rattle.refutation.specs.Draft.{form, so_far};
 
@@ -72,13 +73,14 @@ impl Draft {
     }
 
     fn add_fact(&mut self, alloc: Global, d: Difference, chain: &Chain) -> Result<(), NoMemory>
+        requires near { IsSmallDifference d.from d.to d.bound }
         ensures { OnOk result (so_far self.new ≡ after (so_far self.old) (forms.Fact d chain.now)) }
     {
         let chain = chain.copy(alloc)?;
         self.facts.push(Fact {
-            from: d.from,
-            to: d.to,
-            bound: d.bound,
+            from: d.from as u16,
+            to: d.to as u16,
+            bound: d.bound as i32,
             chain,
         })
     }
@@ -97,6 +99,7 @@ impl Draft {
 
     /// Keeps a line.
     fn keep(&mut self, alloc: Global, line: &Form<'_>) -> Result<(), NoMemory>
+        requires near { breaks_range (form line.now) ≡ false }
         ensures { OnOk result (so_far self.new ≡ after (so_far self.old) (form line.now)) }
     {
         match line {

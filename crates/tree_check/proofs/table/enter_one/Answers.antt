@@ -3,7 +3,7 @@ use Rattle.std.proofs.lemmas.Int.{ints}
 use Rattle.tree_check.specs.Bounds.{empty_cell}
 use Rattle.tree_check.proofs.Cells.{cells-set-as, IsWorse}
 use Rattle.tree_check.proofs.table.enter_one.Goals as goal
-use Rattle.tree_check.proofs.table.enter_one.Goals.{else-cell-stamp-via-then-cell-stamp+else-cell-fact, else-cell-stamp-via-else-cell-stamp}
+use Rattle.tree_check.proofs.table.enter_one.Goals.{else-cell-stamp-via-then-cell-stamp+else-cell-bound, else-cell-stamp-via-else-cell-stamp}
 
 pub returns-clause-known : goal.returns-clause-known
 returns-clause-known c i j w =
@@ -11,7 +11,7 @@ returns-clause-known c i j w =
     let names = c.requires.names in
     let worse : IsWorse c.args.stamp c.args.fact.now.bound (slice_index_or c.args.cells.now (c.args.fact.now.from * 64 + c.args.fact.now.to) empty_cell) =
     elim c.else-cell-stamp.branch [
-      | else-cell-stamp-via-then-cell-stamp+else-cell-fact w ↦ let h = w.if-cell-fact.false in inr (grind (arith, ints))
+      | else-cell-stamp-via-then-cell-stamp+else-cell-bound w ↦ let h = w.if-cell-bound.false in inr (grind (arith, ints))
       | else-cell-stamp-via-else-cell-stamp w ↦ inl w.if-cell-stamp.false
     ] in
-    cells-set-as c.args.cells.now c.args.stamp c.args.fact.now (to_z w64 (of_z w64 c.args.fact.now.bound)) i j w (omega (arith, ints)) long names.from names.to worse
+    cells-set-as c.args.cells.now c.args.stamp c.args.fact.now (to_z w64 (of_z w64 c.from-bound.result)) i j w (omega (arith, ints, c.from-bound.ensures)) long names.from names.to worse
