@@ -23,12 +23,3 @@ pub use rl_jobs::Fault;
 pub use running::run;
 pub use status::Status;
 pub use verdict::Verdict;
-
-#[cfg(test)]
-mod check_tests;
-#[cfg(test)]
-mod module_tests;
-#[cfg(test)]
-mod size_tests;
-#[cfg(test)]
-mod tests;

@@ -15,6 +15,3 @@ mod scope;
 
 pub use error::VerilogError;
 pub use reader::read_module;
-
-#[cfg(test)]
-mod tests;

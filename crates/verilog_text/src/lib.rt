@@ -11,6 +11,3 @@ pub mod spelling_laws;
 pub use circuit::{Assign, Bit, Module, Reg, Target, laws, validity_laws};
 pub use print::print_module;
 pub use rule::Rule;
-
-#[cfg(test)]
-mod tests;

@@ -1,5 +1,5 @@
 use Rattle.std.proofs.Common.{refl}
-use Rattle.verilog_text.proofs.tests.latch.Goals as goal
+use Rattle.module_checks.proofs.printing.latch.Goals as goal
 
 pub new-requires-5 : goal.new-requires-5
 new-requires-5 c =

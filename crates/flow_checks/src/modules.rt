@@ -1,6 +1,6 @@
 //! Simulations of modules through `run`.
-use crate::status::Status;
-use crate::tests::{EASY, RACE_MODULE, expect, expect_values, output_of};
+use crate::commands::{EASY, RACE_MODULE, expect, expect_values, output_of};
+use rl_flow::Status;
 use std::alloc::Global;
 use std::test::Fail;
 

@@ -1,5 +1,5 @@
 use Rattle.std.proofs.Common.{refl}
-use Rattle.verilog_text.proofs.tests.first_of_two.Goals as goal
+use Rattle.module_checks.proofs.printing.first_of_two.Goals as goal
 
 pub new-requires-3 : goal.new-requires-3
 new-requires-3 c =

@@ -1,5 +1,5 @@
 use Rattle.std.proofs.Common.{refl}
-use Rattle.verilog_text.proofs.tests.copy.Goals as goal
+use Rattle.module_checks.proofs.printing.copy.Goals as goal
 
 pub new-requires-2 : goal.new-requires-2
 new-requires-2 c =

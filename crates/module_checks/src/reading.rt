@@ -1,11 +1,10 @@
 ghost use Rattle.std.specs.Prelude.{◌≤◌, length};
 
-use crate::error::VerilogError;
-use crate::reader::read_module;
 use itoa::Buffer;
 use std::alloc::Global;
 use std::process::Abort;
 use std::test::Fail;
+use verilog_read::{VerilogError, read_module};
 use verilog_text::print_module;
 
 const PORTS: &[u8] = b"module race(clk, rst, in_a, in_b, out_y);

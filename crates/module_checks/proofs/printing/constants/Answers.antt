@@ -1,5 +1,5 @@
 use Rattle.std.proofs.Common.{refl}
-use Rattle.verilog_text.proofs.tests.constants.Goals as goal
+use Rattle.module_checks.proofs.printing.constants.Goals as goal
 
 pub new-requires-3 : goal.new-requires-3
 new-requires-3 c =

@@ -1,10 +1,7 @@
-use crate::message::line;
-use crate::module_tests::TAPS_MODULE;
-use crate::refusal::Refusal;
-use crate::running::run;
-use crate::status::Status;
+use crate::modules::TAPS_MODULE;
 use itoa::Buffer;
 use net_lang;
+use rl_flow::{Refusal, Status, line, run};
 use rl_io::{FileShelf, MemShelf, MemSink, StdSink, are_distinct};
 use rl_jobs::Fault;
 use std::alloc::{AllocError, Global};

@@ -1,5 +1,5 @@
 use Rattle.std.proofs.Common.{refl}
-use Rattle.verilog_text.proofs.tests.nested_in_or.Goals as goal
+use Rattle.module_checks.proofs.printing.nested_in_or.Goals as goal
 
 pub new-requires-4 : goal.new-requires-4
 new-requires-4 c =

@@ -1,5 +1,5 @@
 //! Files at the limits: the widest table and window, 64 outputs, 65,536 register bits, and lets that double.
-use crate::tests::{doubling, expect_values, output_of};
+use crate::commands::{doubling, expect_values, output_of};
 use itoa::Buffer;
 use std::alloc::Global;
 use std::process::Abort;

@@ -1,6 +1,6 @@
 //! Trees of two networks that are checked through `run`.
-use crate::status::Status;
-use crate::tests::{EASY, expect_on};
+use crate::commands::{EASY, expect_on};
+use rl_flow::Status;
 use std::alloc::Global;
 use std::process::Abort;
 use std::test::Fail;

@@ -1,0 +1,11 @@
+//! Tests of the top call on whole commands, against texts known from elsewhere. It has no code of its own.
+#![tactic(auto)]
+
+#[cfg(test)]
+mod certificates;
+#[cfg(test)]
+mod commands;
+#[cfg(test)]
+mod modules;
+#[cfg(test)]
+mod sizes;
