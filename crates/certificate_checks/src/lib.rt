@@ -4,4 +4,6 @@
 #[cfg(test)]
 mod differences;
 #[cfg(test)]
+mod tree_texts;
+#[cfg(test)]
 mod trees;

@@ -5,3 +5,5 @@
 mod printing;
 #[cfg(test)]
 mod reading;
+#[cfg(test)]
+mod syntax;

@@ -8,6 +8,8 @@ mod rows;
 #[cfg(test)]
 mod synthesis;
 #[cfg(test)]
+mod tables;
+#[cfg(test)]
 mod terms;
 #[cfg(test)]
 mod texts;

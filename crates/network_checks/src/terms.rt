@@ -118,7 +118,8 @@ output v = never
 
 #[test]
 fn what_no_root_reaches_goes(rt: HostRuntime) -> Result<(), Fail> {
-    let text = b"racenet 1\ninput a b\nlet m = min(a, b)\noutput y = inc(max(b, a), 2)\noutput z = b\n";
+    let text =
+        b"racenet 1\ninput a b\nlet m = min(a, b)\noutput y = inc(max(b, a), 2)\noutput z = b\n";
     let n = read_network(rt.alloc(), text)?;
     let mut store = Store::new(rt.alloc())?;
     let roots = store.build(rt.alloc(), &n)?;

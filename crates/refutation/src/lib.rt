@@ -25,5 +25,3 @@ pub use reader::{Rule, TreeError, read_tree};
 pub use rl_text::Name;
 pub use tree::{NamedTree, Tree};
 
-#[cfg(test)]
-mod tests;

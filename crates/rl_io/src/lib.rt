@@ -12,8 +12,6 @@ pub mod putting;
 pub mod shelf;
 pub mod sink;
 pub mod system;
-#[cfg(test)]
-mod tests;
 
 pub use laws::no_planned_fault;
 pub use loading::{LARGEST_LIMIT, LoadError, load};

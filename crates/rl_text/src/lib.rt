@@ -39,5 +39,3 @@ pub use scan::first_bad;
 pub use token::{Kind, LexError, Style, Token};
 pub use words::{Lexeme, Word};
 
-#[cfg(test)]
-mod tests;

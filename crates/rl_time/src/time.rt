@@ -69,26 +69,3 @@ impl Time {
         }
     }
 }
-
-#[cfg(test)]
-mod tests {
-    use super::Time;
-    use std::test::Fail;
-
-    #[test]
-    fn operators_on_numbers_ties_and_never(rt: HostRuntime) -> Result<(), Fail> {
-        let never = Time::Never;
-        let (three, five) = (Time::At(3), Time::At(5));
-        assert_eq!(rt; three.earlier(five), three);
-        assert_eq!(rt; never.earlier(five), five);
-        assert_eq!(rt; three.later(five), five);
-        assert_eq!(rt; three.later(never), never);
-        assert_eq!(rt; three.before(five), three);
-        assert_eq!(rt; five.before(five), never);
-        assert_eq!(rt; five.before(never), five);
-        assert_eq!(rt; never.before(five), never);
-        assert_eq!(rt; three.delayed(2), five);
-        assert_eq!(rt; never.delayed(2), never);
-        Ok(())
-    }
-}

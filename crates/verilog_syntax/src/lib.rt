@@ -18,5 +18,3 @@ pub use stage::Stage;
 pub use statement::{Always, Form, Statement};
 pub use written::{Next, Written};
 
-#[cfg(test)]
-mod tests;

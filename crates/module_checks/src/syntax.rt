@@ -1,10 +1,8 @@
-use crate::error::SyntaxError;
-use crate::parser::next_statement;
-use crate::stage::Stage;
 use rl_text::{Lexeme, Style, lex, lexemes, line_at};
 use std::alloc::Global;
 use std::process::Abort;
 use std::test::Fail;
+use verilog_syntax::{Stage, SyntaxError, next_statement};
 
 // How many statements the words of a text are.
 fn count(alloc: Global, words: &[Lexeme<'_>], end: u32) -> Result<usize, SyntaxError> {

@@ -1,9 +1,7 @@
 //! Trees read and printed, and the error of each rule with its line.
 ghost use Rattle.std.specs.Prelude.{◌≤◌, length};
 
-use crate::laws::what_is_spelled_are_trees;
-use crate::print::print_tree;
-use crate::reader::{TreeError, read_tree};
+use refutation::{TreeError, print_tree, read_tree, what_is_spelled_are_trees};
 use std::alloc::Global;
 use std::process::Abort;
 use std::test::Fail;

@@ -1,13 +1,10 @@
 ghost use Rattle.std.specs.Prelude.{◌≡◌, ◌≤◌, ◌+◌, ◌++◌, [], length, codes, Some, IfOk, IsSomeAnd};
 ghost use Rattle.rl_io.specs.Files.{file_under};
 
-use crate::loading::{LARGEST_LIMIT, LoadError, load};
-use crate::mem_shelf::{MemShelf, are_distinct};
-use crate::mem_sink::MemSink;
-use crate::putting::{SinkFault, put_all};
-use crate::shelf::{Fetched, Shelf};
-use crate::sink::{Put, Sink};
-use crate::system::{FileShelf, StdSink};
+use rl_io::{
+    Fetched, FileShelf, LARGEST_LIMIT, LoadError, MemShelf, MemSink, Put, Shelf, Sink, SinkFault,
+    StdSink, are_distinct, load, put_all,
+};
 use std::alloc::{AllocError, Global};
 use std::io::Write;
 use std::os::fd::AsRawFd;
