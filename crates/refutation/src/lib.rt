@@ -24,4 +24,3 @@ pub use print::print_tree;
 pub use reader::{Rule, TreeError, read_tree};
 pub use rl_text::Name;
 pub use tree::{NamedTree, Tree};
-

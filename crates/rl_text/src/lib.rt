@@ -38,4 +38,3 @@ pub use print::{put, put_number};
 pub use scan::first_bad;
 pub use token::{Kind, LexError, Style, Token};
 pub use words::{Lexeme, Word};
-

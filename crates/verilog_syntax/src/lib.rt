@@ -17,4 +17,3 @@ pub use parser::next_statement;
 pub use stage::Stage;
 pub use statement::{Always, Form, Statement};
 pub use written::{Next, Written};
-
