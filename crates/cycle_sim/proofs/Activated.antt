@@ -10,8 +10,8 @@ use Rattle.circuit.specs.Circuit.{Logic, Assignment, Register, Circuit, names_wi
 use Rattle.circuit.specs.Circuit as l
 use Rattle.circuit.specs.Valid.{IsTarget, IsOrdered}
 use Rattle.circuit.specs.Meaning.{State, level, at, put, HasLevels, IsSettled}
-use Rattle.cycle_sim.specs.Marked.{IsUnmarked, HasAll, HasAllAbove}
-use Rattle.cycle_sim.specs.Operands.{Operand, Input, Wire, Bit, value, Names, place, AreReaders}
+use Rattle.levels.specs.Marked.{IsUnmarked, HasAll, HasAllAbove}
+use Rattle.levels.specs.Operands.{Operand, Input, Wire, Bit, value, Names, place, AreReaders}
 use Rattle.cycle_sim.specs.UpToDate.{AllMarked, IsSeen, IsUpToDate}
 use Rattle.cycle_sim.proofs.Seen.{assign_seen, reg_seen}
 

@@ -1,8 +1,7 @@
--- Histories, and the levels of inputs, grow at their ends.
-use Rattle.std.proofs.Common.{◌≡◌, ℕ, zero, suc, ◌+◌, Bool, List, [], ◌∷◌, ◌++◌, refl, ap, ◌∙◌, sym, subst, arith, add-zero, add-one, Option, Some, None}
-use Rattle.rl_time.specs.declared.time.Time.{Time}
+-- Histories grow at their ends.
+use Rattle.std.proofs.Common.{◌≡◌, Bool, List, [], ◌∷◌, ◌++◌, refl, sym, subst, Option, Some, None}
 use Rattle.circuit.specs.Circuit.{Circuit}
-use Rattle.circuit.specs.Meaning.{State, IsHistory, Follows, levels_at, levels_from}
+use Rattle.circuit.specs.Meaning.{State, IsHistory, Follows}
 use Rattle.cycle_sim.specs.Standing.{IsStep, last_state, Ran, RanOn}
 
 last_of_more : (s : State) (states : List State) → last_state (states ++ s ∷ []) ≡ Some s
@@ -36,16 +35,3 @@ ran_on m us states inputs before (Some s) r step = (
     last = sym (last_of_more s states);
   },
 )
-
-levels_from_on : (rises : List Time) (cycle n : ℕ) →
-    levels_from rises cycle (suc n) ≡ levels_from rises cycle n ++ levels_at rises (cycle + n) ∷ []
-levels_from_on rises cycle zero = ap (λ z. levels_at rises z ∷ []) (sym (add-zero cycle))
-levels_from_on rises cycle (suc n) =
-    let e : suc cycle + n ≡ cycle + suc n = omega arith in
-    ap (λ z. levels_at rises cycle ∷ z) (levels_from_on rises (suc cycle) n
-    ∙ ap (λ z. levels_from rises (suc cycle) n ++ levels_at rises z ∷ []) e)
-
-pub levels_on : (rises : List Time) (n : ℕ) → levels_from rises 0 (n + 1) ≡ levels_from rises 0 n ++ levels_at rises n ∷ []
-levels_on rises n =
-    let e : 0 + n ≡ n = omega arith in
-    rw add-one (levels_from_on rises 0 n ∙ ap (λ z. levels_from rises 0 n ++ levels_at rises z ∷ []) e)

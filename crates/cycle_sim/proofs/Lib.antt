@@ -1,15 +1,8 @@
-pub mod Edges
 pub mod Histories
 pub mod Grown
-pub mod Stretches
-pub mod Bits
 pub mod Seen
 pub mod Activated
-pub mod Listed
 pub mod Shifting
-pub mod Recording
 pub mod Quiet
-pub mod Words
-pub mod Counting
 pub mod Passes
 pub mod Filling

@@ -7,7 +7,7 @@ use Rattle.circuit.specs.declared.bit.Target.TheVariants as target
 use Rattle.circuit.specs.Circuit.{Assignment, Circuit}
 use Rattle.circuit.specs.Valid.{IsTarget}
 use Rattle.circuit.specs.Meaning.{State, level, put, activate, activate_one, activate_all, HasLevels, InOrder, upto, SettlesInOrder, IsSettled}
-use Rattle.cycle_sim.specs.Levels.{HasPlace}
+use Rattle.levels.specs.Levels.{HasPlace}
 
 -- the numbers from j on occur in themselves in order
 pub in_order_alone : (j n : ℕ) → InOrder (upto j n) (upto j n)

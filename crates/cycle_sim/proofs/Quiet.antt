@@ -1,11 +1,11 @@
 -- A cycle after which nothing changes.
-use Rattle.std.proofs.Common.{◌≡◌, ℕ, zero, suc, ◌+◌, ◌<◌, Bool, true, List, [], ◌∷◌, length, get_or, take, replicate, refl, ap, ◌∙◌, sym, subst, arith, Some, None, if◌then◌else◌, map, IsSome}
+use Rattle.std.proofs.Common.{◌≡◌, ℕ, zero, suc, ◌+◌, ◌<◌, Bool, true, false, List, [], ◌∷◌, length, get_or, take, replicate, refl, ap, ◌∙◌, sym, subst, arith, Some, None, if◌then◌else◌, map, IsSome}
 use Rattle.std.proofs.lemmas.Option.{slice_get_within, slice_get-get_or}
 use Rattle.circuit.specs.Circuit.{Circuit}
 use Rattle.circuit.specs.Meaning.{State, level, IsSettled, IsNext, Follows}
-use Rattle.cycle_sim.specs.Levels.{HasAllLevels}
+use Rattle.levels.specs.Levels.{HasAllLevels}
 use Rattle.cycle_sim.specs.Standing.{Standing, IsStep}
-use Rattle.cycle_sim.specs.Marked.{IsUnmarked}
+use Rattle.levels.specs.Marked.{IsUnmarked}
 use Rattle.cycle_sim.specs.UpToDate.{IsUpToDate}
 use Rattle.cycle_sim.proofs.Shifting.{rows_by, count_rows, take_same}
 
@@ -55,3 +55,9 @@ quiet_step v m started levels inputs view on next same =
     let t : w ≡ v = ap (λ z. let u : Standing = record { circuit = m; state = if z then Some levels else None } in u) (sym on) ∙ view in
     let step : IsNext m levels levels inputs = subst (λ z. IsNext m levels levels z) (sym same) next in
     subst (λ (z : Standing). IsStep z.circuit z.state z.state inputs × IsSome z.state) t (step, refl)
+
+-- the state of a simulation that is in a cycle
+pub levels_are : (v : Standing) (m : Circuit) (started : Bool) (levels s : State) → (let w : Standing = record { circuit = m; state = if started then Some levels else None } in w ≡ v) →
+    v.state ≡ Some s → levels ≡ s
+levels_are v m true levels s view is = let b : Some levels ≡ v.state = ap (λ (z : Standing). z.state) view in cc
+levels_are v m false levels s view is = let b : None ≡ v.state = ap (λ (z : Standing). z.state) view in cc

@@ -1,11 +1,12 @@
 -- Levels that depend on the named operands only, and what stays up to date.
-use Rattle.std.proofs.Common.{◌≡◌, ℕ, ◌+◌, List, length, refl, ap, ◌∙◌, inl, inr, arith, Some}
-use Rattle.std.specs.Prelude.{not, ◌&&◌, ◌||◌, slice_get, ◌⊎◌}
+use Rattle.std.proofs.Common.{◌≡◌, ℕ, ◌+◌, List, length, refl, ap, ◌∙◌, inl, inr, Some}
+use Rattle.std.specs.Prelude.{not, ◌&&◌, ◌||◌, slice_get}
 use Rattle.circuit.specs.Circuit as l
 use Rattle.circuit.specs.Circuit.{Logic, Assignment, Register, Circuit}
 use Rattle.circuit.specs.Meaning.{State, level}
-use Rattle.cycle_sim.specs.Marked.{mark_at, IsMarked, IsUnmarked, HasMore}
-use Rattle.cycle_sim.specs.Operands.{Operand, Input, Wire, Bit, value, Names}
+use Rattle.levels.specs.Marked.{IsUnmarked, HasMore}
+use Rattle.levels.proofs.Listed.{marked_unmarked}
+use Rattle.levels.specs.Operands.{Operand, Input, Wire, Bit, value, Names}
 use Rattle.cycle_sim.specs.UpToDate.{AllMarked, IsSeen}
 
 -- a level depends on the named operands only
@@ -20,9 +21,6 @@ level_by s s' (l.And e f) h =
     ap (λ v. v && level s f) (level_by s s' e (λ x n. h x (inl n))) ∙ ap (λ v. level s' e && v) (level_by s s' f (λ x n. h x (inr n)))
 level_by s s' (l.Or e f) h =
     ap (λ v. v || level s f) (level_by s s' e (λ x n. h x (inl n))) ∙ ap (λ v. level s' e || v) (level_by s s' f (λ x n. h x (inr n)))
-
-pub marked_unmarked : (words : List ℕ) (k : ℕ) → IsMarked words k → IsUnmarked words k → ⊥
-marked_unmarked words k m u = omega (arith, m, u)
 
 -- an assign that isn't marked has the same level in both states
 pub assign_seen : (m : Circuit) (s s' : State) (words : List ℕ) → IsSeen m s s' words → (k : ℕ) (a : Assignment) → slice_get m.assigns k ≡ Some a →
@@ -57,10 +55,3 @@ seen_on m s s' s'' words words' h more h' = record {
     | inl e' ↦ elim (h.by x) [ inl e ↦ inl (e ∙ e') | inr all ↦ inr (all_more m words words' x all more) ]
   ];
 }
-
--- what isn't marked in more isn't marked in less
-pub unmarked_less : (words words' : List ℕ) (k : ℕ) → HasMore words words' → ((mark_at words k ≡ 0) ⊎ (mark_at words k ≡ 1)) → IsUnmarked words' k → IsUnmarked words k
-unmarked_less words words' k more either u = elim either [
-  | inl e ↦ e
-  | inr e ↦ absurd (marked_unmarked words' k (more.kept k e) u)
-]

@@ -1,35 +1,25 @@
 -- Shifts of registers, and which items see them.
 use Rattle.std.proofs.Common.{◌≡◌, ◌≢◌, ℕ, zero, suc, ◌+◌, ◌*◌, ◌<◌, ◌≤◌, Bool, false, List, [], ◌∷◌, length, get_or, set, take, replicate, refl, ap, ◌∙◌, sym, subst, inl, inr, arith, Some, get_or-set_same, get_or-set_other}
 use Rattle.std.specs.Prelude.{slice_get, ◌⊎◌}
-use Rattle.std.proofs.lemmas.List.{get_or_past, length-take-le, length-set}
+use Rattle.std.proofs.lemmas.List.{get_or_past, length-set}
 use Rattle.std.proofs.lemmas.Option.{slice_get_within, slice_get-get_or, get_or_from_slice_get}
 use Rattle.std.proofs.lemmas.Bool.{cases_lt, cases_eq}
 use Rattle.circuit.specs.declared.bit.Target.{Target}
 use Rattle.circuit.specs.declared.bit.Target.TheVariants as target
 use Rattle.circuit.specs.Circuit.{Register, Circuit}
 use Rattle.circuit.specs.Meaning.{State, level, at, row_after, rows_after}
-use Rattle.cycle_sim.specs.Levels.{shifted, HaveWidths, HasAllLevels}
-use Rattle.cycle_sim.specs.Marked.{mark_at, IsMarked, IsUnmarked, HasMore, HasAll}
-use Rattle.cycle_sim.specs.Operands.{Operand, Input, Wire, Bit, value, place, AreReaders}
+use Rattle.levels.specs.Levels.{shifted, HaveWidths, HasAllLevels}
+use Rattle.levels.specs.Marked.{mark_at, IsMarked, IsUnmarked, HasMore, HasAll}
+use Rattle.levels.specs.Operands.{Operand, Input, Wire, Bit, value, place, AreReaders}
 use Rattle.cycle_sim.specs.UpToDate.{AllMarked, IsSeen, IsUpToDate}
 use Rattle.cycle_sim.specs.Shifts.{StaysSame, AreSeen, Edging, Taking}
-use Rattle.cycle_sim.proofs.Seen.{assign_seen, reg_seen, seen_on, seen_refl, unmarked_less, marked_unmarked}
-use Rattle.cycle_sim.proofs.Bits.{mark_either}
+use Rattle.levels.proofs.Listed.{unmarked_less, marked_unmarked}
+use Rattle.levels.proofs.Edges.{shifted_reads, shifted_long}
+use Rattle.cycle_sim.proofs.Seen.{assign_seen, reg_seen, seen_on, seen_refl}
+use Rattle.levels.proofs.Bits.{mark_either}
 use Rattle.cycle_sim.proofs.Activated.{all_listed}
 
 -- ---- one row
-
-take_reads : (xs : List Bool) (n j : ℕ) → j < n → get_or (take n xs) j false ≡ get_or xs j false
-take_reads xs zero j h = absurd (omega arith)
-take_reads [] (suc n) j h = refl
-take_reads (x ∷ xs) (suc n) zero h = refl
-take_reads (x ∷ xs) (suc n) (suc j) h = take_reads xs n j (omega arith)
-
-pub shifted_reads : (first : Bool) (row : List Bool) (j : ℕ) → j < length row → get_or (shifted first row) j false ≡ get_or (first ∷ row) j false
-shifted_reads first row j h = take_reads (first ∷ row) (length row) j h
-
-pub shifted_long : (first : Bool) (row : List Bool) → length (shifted first row) ≡ length row
-shifted_long first row = length-take-le (length row) (first ∷ row) (omega arith)
 
 -- where nothing changes, all bits are the first level
 pub same_shifted : (first : Bool) (row : List Bool) → ((j : ℕ) → j < length row → get_or (first ∷ row) j false ≡ get_or row j false) →

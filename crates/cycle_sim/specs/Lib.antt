@@ -1,11 +1,5 @@
 pub mod Standing
-pub mod Levels
 pub mod Ready
 pub mod Code
-pub mod Digits
-pub mod Marked
-pub mod Operands
 pub mod UpToDate
 pub mod Shifts
-pub mod Recorded
-pub mod Rows

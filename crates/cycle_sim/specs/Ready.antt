@@ -2,9 +2,9 @@
 use Rattle.std.specs.Prelude.{◌≡◌, ℕ, ◌+◌, ◌*◌, ◌<◌, ◌≤◌, Bool, true, false, List, length, map}
 use Rattle.circuit.specs.Circuit.{Circuit}
 use Rattle.circuit.specs.Meaning.{State, IsSettled, row_at_start}
-use Rattle.cycle_sim.specs.Levels.{HasAllLevels}
-use Rattle.cycle_sim.specs.Marked.{IsUnmarked}
-use Rattle.cycle_sim.specs.Operands.{AreReaders, HasTaps}
+use Rattle.levels.specs.Levels.{HasAllLevels}
+use Rattle.levels.specs.Marked.{IsUnmarked}
+use Rattle.levels.specs.Operands.{AreReaders, HasTaps}
 use Rattle.cycle_sim.specs.UpToDate.{IsUpToDate}
 
 -- Every level has its place, the lists have all readers, there is room for marks and next levels, no register moves, and

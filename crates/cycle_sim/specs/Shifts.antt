@@ -2,8 +2,8 @@
 use Rattle.std.specs.Prelude.{◌≡◌, ℕ, ◌+◌, ◌<◌, Bool, false, List, [], ◌∷◌, length, replicate, slice_get, slice_index_or, Some, ◌⊎◌}
 use Rattle.circuit.specs.Circuit.{Register, Circuit}
 use Rattle.circuit.specs.Meaning.{State, level, row_after}
-use Rattle.cycle_sim.specs.Marked.{IsMarked, IsUnmarked, HasAll}
-use Rattle.cycle_sim.specs.Operands.{Bit, place, list_at}
+use Rattle.levels.specs.Marked.{IsMarked, IsUnmarked, HasAll}
+use Rattle.levels.specs.Operands.{Bit, place, list_at}
 use Rattle.cycle_sim.specs.UpToDate.{IsSeen}
 
 -- the first bits stay as they are when the row takes this level

@@ -2,8 +2,8 @@
 use Rattle.std.specs.Prelude.{◌≡◌, ℕ, ◌+◌, Bool, List, length, replicate, slice_get, Some, ◌⊎◌}
 use Rattle.circuit.specs.Circuit.{Assignment, Register, Circuit}
 use Rattle.circuit.specs.Meaning.{State, level, at}
-use Rattle.cycle_sim.specs.Marked.{IsMarked, IsUnmarked}
-use Rattle.cycle_sim.specs.Operands.{Operand, value, Names}
+use Rattle.levels.specs.Marked.{IsMarked, IsUnmarked}
+use Rattle.levels.specs.Operands.{Operand, value, Names}
 
 -- each item that names the operand is marked
 pub record AllMarked (m : Circuit) (words : List ℕ) (x : Operand) : Type 0 where

@@ -2,17 +2,15 @@ ghost use Rattle.std.specs.Prelude.{◌≡◌, ◌≢◌, ◌⊎◌, ◌≤◌, 
 ghost use Rattle.circuit.specs.Circuit.{Register};
 ghost use Rattle.circuit.specs.Meaning as spec;
 ghost use Rattle.circuit.specs.Meaning.{rows_after};
-ghost use Rattle.cycle_sim.specs.Levels.{HasAllLevels, shifted};
-ghost use Rattle.cycle_sim.specs.Marked.{mark_at, IsMarked, IsUnmarked, HasMore, HasAll};
-ghost use Rattle.cycle_sim.specs.Operands.{Bit, AreReaders, HasTaps, list_at, place};
+ghost use Rattle.levels.specs.Levels.{HasAllLevels, shifted};
+ghost use Rattle.levels.specs.Marked.{mark_at, IsMarked, IsUnmarked, HasMore, HasAll};
+ghost use Rattle.levels.specs.Operands.{Bit, AreReaders, HasTaps, list_at, place};
 ghost use Rattle.cycle_sim.specs.UpToDate.{IsUpToDate, IsSeen};
 ghost use Rattle.cycle_sim.specs.Shifts.{AreSeen, StaysSame};
 
-use crate::levels::Levels;
-use crate::marks::Marks;
 use crate::pass::edge_plainly;
-use crate::readers::Readers;
 use circuit::Module;
+use levels::{Levels, Marks, Readers};
 
 // Marks the items that name a bit of a register that a shift changes, and the register if there is one. Answers whether there is one.
 fn mark_changes(
@@ -25,11 +23,11 @@ fn mark_changes(
 ) -> bool
     requires a_register { reg < length m.now.regs }
     requires rows { length levels.now.regs ≡ length m.now.regs }
-    requires taps { HasTaps readers.now.lists.items readers.now.tapped }
+    requires taps { HasTaps readers.now.lists readers.now.tapped }
     requires room { length m.now.assigns + length m.now.regs ≤ 64 * length marks.old }
     ensures more { HasMore marks.old marks.new }
     ensures seen { let row = slice_index_or levels.now.regs reg [] in
-        AreSeen m.now readers.now.starts.items readers.now.lists.items marks.new reg first row (length row) }
+        AreSeen m.now readers.now.starts.items readers.now.lists marks.new reg first row (length row) }
     ensures quiet { let row = slice_index_or levels.now.regs reg [] in
         IsMarked marks.new (length m.now.assigns + reg) ⊎ StaysSame first row (length row) }
 {
@@ -59,8 +57,8 @@ fn shift_register(
 ) -> bool
     requires a_register { reg < length m.now.regs }
     requires rows { length levels.old.regs ≡ length m.now.regs }
-    requires taps { HasTaps readers.now.lists.items readers.now.tapped }
-    requires readers { AreReaders m.now readers.now.starts.items readers.now.lists.items }
+    requires taps { HasTaps readers.now.lists readers.now.tapped }
+    requires readers { AreReaders m.now readers.now.starts.items readers.now.lists }
     requires room { length m.now.assigns + length m.now.regs ≤ 64 * length marks.old }
     ensures state { let row = slice_index_or levels.old.regs reg [] in
         levels.new ≡ record levels.old { regs = slice_set levels.old.regs reg (shifted first row) } }
@@ -118,8 +116,8 @@ fn edge_marked(
     firsts: &mut [bool],
 ) -> usize
     requires levels { HasAllLevels m.now levels.old }
-    requires taps { HasTaps readers.now.lists.items readers.now.tapped }
-    requires readers { AreReaders m.now readers.now.starts.items readers.now.lists.items }
+    requires taps { HasTaps readers.now.lists readers.now.tapped }
+    requires readers { AreReaders m.now readers.now.starts.items readers.now.lists }
     requires room { length m.now.assigns + length m.now.regs ≤ 64 * length marks.old }
     requires moving_room { length m.now.regs ≤ 64 * length moving.old }
     requires firsts { length firsts.old ≡ length m.now.regs }
@@ -157,8 +155,8 @@ pub fn clock_edge(
     busy: bool,
 ) -> bool
     requires levels { HasAllLevels m.now levels.old }
-    requires taps { HasTaps readers.now.lists.items readers.now.tapped }
-    requires readers { AreReaders m.now readers.now.starts.items readers.now.lists.items }
+    requires taps { HasTaps readers.now.lists readers.now.tapped }
+    requires readers { AreReaders m.now readers.now.starts.items readers.now.lists }
     requires room { length m.now.assigns + length m.now.regs ≤ 64 * length marks.old }
     requires moving_room { length m.now.regs ≤ 64 * length moving.old }
     requires firsts { length firsts.old ≡ length m.now.regs }

@@ -1,17 +1,15 @@
 ghost use Rattle.std.specs.Prelude.{◌≡◌, ◌≢◌, ◌⊎◌, ◌≤◌, ◌<◌, ◌+◌, ◌*◌, ℕ, length, slice_set};
-ghost use Rattle.cycle_sim.specs.Marked.{HasMore, HasAll};
-ghost use Rattle.cycle_sim.specs.Operands.{AreReaders, list_at};
+ghost use Rattle.levels.specs.Marked.{HasMore, HasAll};
+ghost use Rattle.levels.specs.Operands.{AreReaders, list_at};
 ghost use Rattle.cycle_sim.specs.UpToDate.{IsUpToDate, IsSeen};
 
-use crate::levels::Levels;
-use crate::marks::Marks;
-use crate::readers::Readers;
 use circuit::Module;
+use levels::{Levels, Marks, Readers};
 
 // Marks the items on the list of a place, if its level changes.
 fn mark_place(readers: &Readers, marks: &mut Marks, place: usize, before: bool, level: bool)
     ensures more { HasMore marks.old marks.new }
-    ensures seen { (before ≡ level) ⊎ HasAll marks.new (list_at readers.now.lists.items place) }
+    ensures seen { (before ≡ level) ⊎ HasAll marks.new (list_at readers.now.lists place) }
 {
     if before != level {
         readers.mark_all(place, marks);
@@ -28,7 +26,7 @@ fn set_input(
     level: bool,
 )
     requires an_input { place < length levels.old.inputs }
-    requires readers { AreReaders m.now readers.now.starts.items readers.now.lists.items }
+    requires readers { AreReaders m.now readers.now.starts.items readers.now.lists }
     requires room { length m.now.assigns + length m.now.regs ≤ 64 * length marks.old }
     ensures state { levels.new ≡ record levels.old { inputs = slice_set levels.old.inputs place level } }
     ensures more { HasMore marks.old marks.new }
@@ -48,7 +46,7 @@ pub fn set_inputs(
     inputs: &[bool],
 )
     requires one_for_each { length inputs.now ≡ length levels.old.inputs }
-    requires readers { AreReaders m.now readers.now.starts.items readers.now.lists.items }
+    requires readers { AreReaders m.now readers.now.starts.items readers.now.lists }
     requires room { length m.now.assigns + length m.now.regs ≤ 64 * length marks.old }
     requires up_to_date { IsUpToDate m.now levels.old marks.old }
     ensures state { levels.new ≡ record levels.old { inputs = inputs.now } }

@@ -6,18 +6,10 @@
 mod edge;
 mod inputs;
 pub mod laws;
-mod levels;
-mod marks;
 mod pass;
-mod readers;
-mod readers_of;
-mod row;
 mod running;
 mod settle;
 mod sim;
 
 pub use running::simulate;
 pub use sim::Sim;
-
-#[cfg(test)]
-mod tests;

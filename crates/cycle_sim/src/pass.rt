@@ -1,12 +1,10 @@
-ghost use Rattle.std.specs.Prelude.{◌≡◌, ◌≤◌, ◌+◌, ◌*◌, length, map};
-ghost use Rattle.circuit.specs.Meaning as spec;
+ghost use Rattle.std.specs.Prelude.{◌≡◌, ◌≤◌, ◌+◌, ◌*◌, length};
 ghost use Rattle.circuit.specs.Meaning.{HasLevels, IsSettled, rows_after};
-ghost use Rattle.cycle_sim.specs.Levels.{HasAllLevels, all_shifted};
+ghost use Rattle.levels.specs.Levels.{HasAllLevels};
 ghost use Rattle.cycle_sim.specs.UpToDate.{IsUpToDate};
 
-use crate::levels::Levels;
-use crate::marks::Marks;
 use circuit::{Module, laws};
+use levels::{Levels, Marks, clock_edge};
 
 /// Gives each wire and output its expression's level, in one pass over all assigns.
 fn settle_all(m: &Module, levels: &mut Levels)
@@ -37,31 +35,6 @@ pub fn settle_plainly(m: &Module, levels: &mut Levels, marks: &mut Marks)
     marks.fill_from(m.assigns().len());
 }
 
-// Puts the level of each register's `next` into this room.
-fn next_levels(m: &Module, levels: &Levels, firsts: &mut [bool])
-    requires { length firsts.old ≡ length m.now.regs }
-    ensures { firsts.new ≡ map (λ r. spec.level levels.now r.next) m.now.regs }
-{
-    for (place, reg) in m.regs().iter().enumerate() {
-        firsts[place] = levels.level(reg.next());
-    }
-}
-
-// Each register takes its first level. Answers how many registers change.
-fn shift_all(levels: &mut Levels, firsts: &[bool]) -> usize
-    requires { length firsts.now ≡ length levels.old.regs }
-    ensures { levels.new ≡ record levels.old { regs = all_shifted firsts.now levels.old.regs } }
-{
-    let mut changed = 0;
-    for (reg, first) in firsts.iter().enumerate() {
-        if levels.changes(reg, *first) {
-            changed += 1;
-        }
-        levels.shift(reg, *first);
-    }
-    changed
-}
-
 /// A clock edge on all registers, after which all is marked; `firsts` is room for a level of each. Answers how many registers
 /// change.
 pub fn edge_plainly(
@@ -77,7 +50,6 @@ pub fn edge_plainly(
     ensures up_to_date { IsUpToDate m.now levels.new marks.new }
     ensures room { length marks.new ≡ length marks.old }
 {
-    next_levels(m, levels, firsts);
     marks.fill_from(0);
-    shift_all(levels, firsts)
+    clock_edge(m, levels, firsts)
 }

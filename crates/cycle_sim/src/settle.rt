@@ -2,15 +2,13 @@ ghost use Rattle.std.specs.Prelude.{◌≡◌, ◌≢◌, ◌⊎◌, ◌≤◌, 
 ghost use Rattle.circuit.specs.declared.bit.Target.{Target};
 ghost use Rattle.circuit.specs.Meaning as spec;
 ghost use Rattle.circuit.specs.Meaning.{HasLevels, IsSettled};
-ghost use Rattle.cycle_sim.specs.Marked.{mark_at, IsUnmarked, HasMore, HasAllAbove, NoneFrom, NoMoreUpTo};
-ghost use Rattle.cycle_sim.specs.Operands.{AreReaders, list_at, wire_place};
+ghost use Rattle.levels.specs.Marked.{mark_at, IsUnmarked, HasMore, HasAllAbove, NoneFrom, NoMoreUpTo};
+ghost use Rattle.levels.specs.Operands.{AreReaders, list_at, wire_place};
 ghost use Rattle.cycle_sim.specs.UpToDate.{IsUpToDate, IsSeen};
 
-use crate::levels::Levels;
-use crate::marks::Marks;
 use crate::pass::settle_plainly;
-use crate::readers::Readers;
 use circuit::{Module, Target};
+use levels::{Levels, Marks, Readers};
 
 // Marks the items above assign k that name its target, if the target's level changes.
 fn mark_change(
@@ -25,7 +23,7 @@ fn mark_change(
     ensures more { HasMore marks.old marks.new }
     ensures below { NoMoreUpTo marks.old marks.new k }
     ensures seen { (w : ℕ) → target ≡ Target.Wire w →
-        (before ≡ level) ⊎ HasAllAbove marks.new k (list_at readers.now.lists.items (wire_place m.now w)) }
+        (before ≡ level) ⊎ HasAllAbove marks.new k (list_at readers.now.lists (wire_place m.now w)) }
 {
     m.rules();
     if before == level {
@@ -41,7 +39,7 @@ fn mark_change(
 fn activate(m: &Module, readers: &Readers, levels: &mut Levels, marks: &mut Marks, k: usize)
     requires an_assign { k < length m.now.assigns }
     requires levels { HasLevels m.now levels.old }
-    requires readers { AreReaders m.now readers.now.starts.items readers.now.lists.items }
+    requires readers { AreReaders m.now readers.now.starts.items readers.now.lists }
     requires room { length m.now.assigns + length m.now.regs ≤ 64 * length marks.old }
     requires up_to_date { IsUpToDate m.now levels.old marks.old }
     ensures up_to_date { IsUpToDate m.now levels.new marks.new }
@@ -72,7 +70,7 @@ fn settle_marked(
     most: usize,
 ) -> usize
     requires levels { HasLevels m.now levels.old }
-    requires readers { AreReaders m.now readers.now.starts.items readers.now.lists.items }
+    requires readers { AreReaders m.now readers.now.starts.items readers.now.lists }
     requires room { length m.now.assigns + length m.now.regs ≤ 64 * length marks.old }
     requires up_to_date { IsUpToDate m.now levels.old marks.old }
     ensures none { NoneFrom marks.new 0 result }
@@ -97,7 +95,7 @@ fn settle_marked(
 /// plain pass where many assigns are marked, or come to be, so then a plain pass is made.
 pub fn settle(m: &Module, readers: &Readers, levels: &mut Levels, marks: &mut Marks)
     requires levels { HasLevels m.now levels.old }
-    requires readers { AreReaders m.now readers.now.starts.items readers.now.lists.items }
+    requires readers { AreReaders m.now readers.now.starts.items readers.now.lists }
     requires room { length m.now.assigns + length m.now.regs ≤ 64 * length marks.old }
     requires up_to_date { IsUpToDate m.now levels.old marks.old }
     ensures settled { IsSettled m.now levels.new }

@@ -1,17 +1,14 @@
 ghost use Rattle.std.specs.Prelude.{◌≡◌, ◌<◌, ◌≤◌, ◌+◌, ℕ, true, length, IfOk, Some, None, IsSome};
 ghost use Rattle.circuit.specs.Meaning.{State, IsNext};
 ghost use Rattle.cycle_sim.specs.Standing.{IsStep, output_level};
-ghost use Rattle.cycle_sim.specs.Marked.{IsUnmarked};
+ghost use Rattle.levels.specs.Marked.{IsUnmarked};
 
 use crate::edge::clock_edge;
 use crate::inputs::set_inputs;
-use crate::levels::Levels;
-use crate::marks::Marks;
-use crate::readers::Readers;
-use crate::readers_of::readers_of;
-use crate::row::all_low;
 use crate::settle::settle;
 use circuit::Module;
+use levels::laws::few_items;
+use levels::{Levels, Marks, Readers, all_low, readers_of};
 use rl_time::NoMemory;
 use std::alloc::Global;
 use std::marker::Model;
@@ -46,7 +43,7 @@ impl<'a> Model for Sim<'a> {
 
     ghost view = { λ s. record { circuit = s.module.now; state = if s.started then Some s.levels else None } };
 
-    ghost invariant = { λ s. IsReady s.module.now s.started s.quiet s.levels s.readers.starts.items s.readers.lists.items s.readers.tapped s.marks s.moving s.firsts.items };
+    ghost invariant = { λ s. IsReady s.module.now s.started s.quiet s.levels s.readers.starts.items s.readers.lists s.readers.tapped s.marks s.moving s.firsts.items };
 }
 
 impl<'a> Sim<'a> {
@@ -124,6 +121,15 @@ impl<'a> Sim<'a> {
         self.quiet
     }
 
+    /// The levels of the outputs in this cycle, in order.
+    pub fn outs(&self) -> &[bool]
+        requires { IsSome self.now.state }
+        ensures levels { (s : State) → self.now.state ≡ Some s → result.now ≡ s.outs }
+        ensures count { length result.now ≡ length self.now.circuit.outputs }
+    {
+        self.levels.outs()
+    }
+
     /// The level of an output in this cycle.
     pub fn level(&self, out: u32) -> bool
         requires in_a_cycle { IsSome self.now.state }
@@ -141,11 +147,4 @@ fn is_quiet(m: &Module, marks: &Marks) -> bool
     let assigns = m.assigns().len();
     let next = marks.first(assigns);
     next >= assigns && next - assigns >= m.regs().len()
-}
-
-// A module has few assigns and registers.
-fn few_items(m: &Module)
-    ensures { length m.now.assigns + length m.now.regs ≤ 131136 }
-{
-    m.rules();
 }

@@ -1,10 +1,10 @@
 use Rattle.std.proofs.Common.{◌≡◌, ◌<◌, false, [], length, get_or, subst, sym, ap, ◌∙◌, refl, arith}
 use Rattle.circuit.specs.Meaning.{rows_after}
-use Rattle.cycle_sim.specs.Levels.{shifted}
-use Rattle.cycle_sim.specs.Marked.{IsMarked}
+use Rattle.levels.specs.Levels.{shifted}
+use Rattle.levels.specs.Marked.{IsMarked}
 use Rattle.cycle_sim.specs.UpToDate.{IsSeen}
 use Rattle.cycle_sim.specs.Shifts.{Edging}
-use Rattle.cycle_sim.proofs.Listed.{none_through}
+use Rattle.levels.proofs.Listed.{none_through}
 use Rattle.cycle_sim.proofs.Shifting.{edging_start, edging_on, edging_up, edging_rows, count_rows, state_by, with_row}
 use Rattle.cycle_sim.proofs.edge.edge_marked.Goals as goal
 use Rattle.cycle_sim.proofs.edge.edge_marked.Goals.{then-shift_register, else-shift_register}

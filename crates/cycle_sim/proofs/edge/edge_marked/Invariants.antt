@@ -1,5 +1,5 @@
 use Rattle.std.proofs.Common.{◌≡◌, ◌-◌, ◌<◌, ◌≤◌, ◌*◌, length}
-use Rattle.cycle_sim.specs.Marked.{NoneFrom, IsMarked}
+use Rattle.levels.specs.Marked.{NoneFrom, IsMarked}
 use Rattle.cycle_sim.specs.Shifts.{Edging}
 use Rattle.cycle_sim.proofs.edge.edge_marked.Given as goal
 

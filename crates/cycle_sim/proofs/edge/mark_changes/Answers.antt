@@ -1,7 +1,7 @@
 use Rattle.std.proofs.Common.{◌≡◌, ℕ, ◌+◌, ◌-◌, ◌<◌, ◌≤◌, [], length, get_or, subst, sym, ap, ◌∙◌, inl, arith}
-use Rattle.cycle_sim.specs.Marked.{HasAll, IsMarked, HasMore}
-use Rattle.cycle_sim.specs.Operands.{place, Bit}
-use Rattle.cycle_sim.proofs.Listed.{more_on}
+use Rattle.levels.specs.Marked.{HasAll, IsMarked, HasMore}
+use Rattle.levels.specs.Operands.{place, Bit}
+use Rattle.levels.proofs.Listed.{more_on}
 use Rattle.cycle_sim.proofs.Shifting.{bits_on}
 use Rattle.cycle_sim.proofs.edge.mark_changes.Goals as goal
 
@@ -9,7 +9,7 @@ pub loop-k-preserved : goal.loop-k-preserved
 loop-k-preserved c =
     let m = c.args.m.now in
     let starts = c.args.readers.now.starts.items in
-    let lists = c.args.readers.now.lists.items in
+    let lists = c.args.readers.now.lists in
     let words' = c.mark_all.new.marks in
     let i = c.loop-k.invariant in
     let more : HasMore c.loop-k.marks words' = more_on c.loop-k.marks c.add.new.self words' c.add.ensures.more c.mark_all.ensures.more in

@@ -1,13 +1,13 @@
 use Rattle.std.proofs.Common.{◌+◌, ◌-◌, [], length, get_or}
 use Rattle.std.specs.Prelude.{◌⊎◌}
-use Rattle.cycle_sim.specs.Marked.{HasMore, IsMarked}
+use Rattle.levels.specs.Marked.{HasMore, IsMarked}
 use Rattle.cycle_sim.specs.Shifts.{AreSeen, StaysSame}
 use Rattle.cycle_sim.proofs.edge.mark_changes.Given as goal
 
 abbrev pub invariant-loop-k : goal.invariant-loop-k
 invariant-loop-k l = record {
   more : HasMore l.fn.marks l.marks;
-  seen : AreSeen l.m l.readers.starts.items l.readers.lists.items l.marks l.reg l.first (get_or l.levels.regs l.reg []) l.k;
+  seen : AreSeen l.m l.readers.starts.items l.readers.lists l.marks l.reg l.first (get_or l.levels.regs l.reg []) l.k;
   quiet : IsMarked l.marks (length l.m.assigns + l.reg) ⊎ StaysSame l.first (get_or l.levels.regs l.reg []) l.k;
 }
 

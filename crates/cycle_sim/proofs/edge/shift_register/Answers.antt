@@ -7,7 +7,7 @@ returns-clause-seen c =
     let s = c.args.levels.now in
     let words = c.mark_changes-changes.new.marks in
     rw c.shift.ensures (record {
-      by = shift_seen c.args.m.now c.args.readers.now.starts.items c.args.readers.now.lists.items s words c.args.reg c.args.first
+      by = shift_seen c.args.m.now c.args.readers.now.starts.items c.args.readers.now.lists s words c.args.reg c.args.first
           (omega (arith, c.requires.a_register, c.requires.rows)) c.requires.readers
           (let r = c.mark_changes-changes.ensures.more.room in omega (arith, c.requires.room)) c.mark_changes-changes.ensures.seen;
     })

@@ -1,5 +1,5 @@
 use Rattle.std.proofs.Common.{◌≡◌, take, length}
-use Rattle.cycle_sim.specs.Marked.{HasMore}
+use Rattle.levels.specs.Marked.{HasMore}
 use Rattle.cycle_sim.specs.UpToDate.{IsSeen}
 use Rattle.cycle_sim.proofs.inputs.set_inputs.Given as goal
 

@@ -4,8 +4,9 @@ use Rattle.circuit.specs.Circuit.{Circuit}
 use Rattle.circuit.specs.Meaning.{levels_at, levels_from, IsHistory}
 use Rattle.rl_time.specs.Time.{has_risen}
 use Rattle.cycle_sim.specs.Standing.{IsStep}
-use Rattle.cycle_sim.specs.Digits.{with_digits}
-use Rattle.cycle_sim.proofs.Grown.{no_cycles, one_row_each, has_room, more_cycles, refilled, length_from_map}
+use Rattle.levels.specs.Digits.{with_digits}
+use Rattle.levels.proofs.Grown.{refilled, length_from_map}
+use Rattle.cycle_sim.proofs.Grown.{no_cycles, one_row_each, has_room, more_cycles}
 use Rattle.cycle_sim.proofs.running.simulate.Goals as goal
 
 pub loop-cycle-init : goal.loop-cycle-init
@@ -23,16 +24,7 @@ push_digits-requires-clause-one_for_each_output c =
     rw c.deref_mut-in-loop-cycle.ensures.value (
     one_row_each (λ row. row.items) (λ row. vec_capacity row) c.args.m.now c.args.rises.now c.args.cycles c.loop-cycle.cycle
     c.loop-cycle.sim.circuit c.loop-cycle.sim.state c.loop-cycle.levels.items c.loop-cycle.rows.items before
-    ∙ ap (λ (m : Circuit). length m.outputs) (sym (c.step.ensures.same_module ∙ before.same_module)))
-
-pub push_digits-requires-clause-few_outputs : goal.push_digits-requires-clause-few_outputs
-push_digits-requires-clause-few_outputs c =
-    rw c.deref_mut-in-loop-cycle.ensures.value (omega (
-      arith,
-      c.rules.ensures.few_outputs,
-      one_row_each (λ row. row.items) (λ row. vec_capacity row) c.args.m.now c.args.rises.now c.args.cycles c.loop-cycle.cycle
-          c.loop-cycle.sim.circuit c.loop-cycle.sim.state c.loop-cycle.levels.items c.loop-cycle.rows.items c.loop-cycle.invariant.run,
-    ))
+    ∙ (ap (λ (m : Circuit). length m.outputs) (sym (c.step.ensures.same_module ∙ before.same_module)) ∙ sym c.outs.ensures.count))
 
 pub push_digits-requires-clause-room : goal.push_digits-requires-clause-room
 push_digits-requires-clause-room c =
@@ -55,12 +47,12 @@ loop-cycle-preserved c =
     let same : map (λ row. vec_capacity row) c.push_digits.new.rows ≡ map (λ row. vec_capacity row) rows.items =
     c.push_digits.ensures.capacity ∙ ap (λ z. map (λ row. vec_capacity row) z) c.deref_mut-in-loop-cycle.ensures.value in
     let rows_are = refilled rows.len rows.items c.push_digits.new.rows (rows.ok.0 ∙ length_from_map (λ row. vec_capacity row) rows.items c.push_digits.new.rows (sym same)) in
-    let digits : map (λ row. row.items) c.push_digits.new.rows ≡ with_digits c.step.new.self.state (c.next_change-next.result - cycle) 0 (map (λ row. row.items) rows.items) =
-    c.push_digits.ensures.digits ∙ ap (λ z. with_digits c.step.new.self.state (c.next_change-next.result - cycle) 0 (map (λ row. row.items) z)) c.deref_mut-in-loop-cycle.ensures.value in
+    let digits : map (λ row. row.items) c.push_digits.new.rows ≡ with_digits c.outs.result.now (c.next_change-next.result - cycle) 0 (map (λ row. row.items) rows.items) =
+    c.push_digits.ensures.digits ∙ ap (λ z. with_digits c.outs.result.now (c.next_change-next.result - cycle) 0 (map (λ row. row.items) z)) c.deref_mut-in-loop-cycle.ensures.value in
     let levels_are = refilled levels.len levels.items c.set_levels.new.levels long in
     let step = subst (λ z. IsStep c.loop-cycle.sim.circuit c.loop-cycle.sim.state c.step.new.self.state z) c.deref.ensures.value c.step.ensures.next_cycle in
     let run = more_cycles (λ row. row.items) (λ row. vec_capacity row) m rises c.args.cycles cycle c.next_change-next.result c.loop-cycle.sim.circuit c.step.new.self.circuit
-    c.loop-cycle.sim.state c.step.new.self.state levels.items _ rows.items _ before
+    c.loop-cycle.sim.state c.step.new.self.state levels.items _ rows.items _ c.outs.result.now before c.outs.ensures.levels
     (c.histories_grow_at_the_end.ensures.grown m) c.next_change-next.ensures.later c.next_change-next.ensures.inputs c.next_change-next.ensures.quiet (levels_are ∙ set) c.step.ensures.same_module step
     (ap (λ z. map (λ row. row.items) z) rows_are ∙ digits) (ap (λ z. map (λ row. vec_capacity row) z) rows_are ∙ same) in
     record { run = run; within = c.next_change-next.ensures.within }

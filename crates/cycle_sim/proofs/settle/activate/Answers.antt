@@ -4,8 +4,8 @@ use Rattle.std.proofs.lemmas.Option.{slice_get_read}
 use Rattle.circuit.specs.Circuit.{Assignment}
 use Rattle.circuit.specs.Meaning.{level, at, put}
 use Rattle.cycle_sim.specs.UpToDate.{IsUpToDate}
-use Rattle.cycle_sim.proofs.Bits.{mark_either}
-use Rattle.cycle_sim.proofs.Seen.{unmarked_less}
+use Rattle.levels.proofs.Bits.{mark_either}
+use Rattle.levels.proofs.Listed.{unmarked_less}
 use Rattle.cycle_sim.proofs.Activated.{activated, seen_change}
 use Rattle.cycle_sim.proofs.settle.activate.Goals as goal
 
@@ -24,7 +24,7 @@ returns-clause-up_to_date c =
     subst (λ z. IsUpToDate m z words') (sym e) (activated m c.rules.ensures.ordered s c.args.marks.now words' k a c.requires.levels
     c.requires.up_to_date there (c.mark_change.ensures.below k (omega arith) c.clear.ensures.cleared)
     (λ i ne u. sym (c.clear.ensures.others i ne) ∙ unmarked_less c.clear.new.self words' i c.mark_change.ensures.more (mark_either c.clear.new.self i) u)
-    (seen_change m c.rules.ensures.ordered c.args.readers.now.starts.items c.args.readers.now.lists.items s words' k a (level s a.bit) there
+    (seen_change m c.rules.ensures.ordered c.args.readers.now.starts.items c.args.readers.now.lists s words' k a (level s a.bit) there
     c.requires.readers (let q = c.mark_change.ensures.more.room in omega (arith, c.clear.ensures.room, c.requires.room))
     (λ w t. elim (c.mark_change.ensures.seen w (c.target-target.ensures ∙ t)) [
       | inl h ↦ inl (ap (λ z. at s z) (sym c.target-target.ensures) ∙ (sym c.at-before.ensures ∙ (h ∙ v)))

@@ -1,6 +1,6 @@
 use Rattle.std.proofs.Common.{◌≡◌, ◌-◌, length}
 use Rattle.circuit.specs.Meaning.{HasLevels}
-use Rattle.cycle_sim.specs.Marked.{NoneFrom}
+use Rattle.levels.specs.Marked.{NoneFrom}
 use Rattle.cycle_sim.specs.UpToDate.{IsUpToDate}
 use Rattle.cycle_sim.proofs.settle.settle_marked.Given as goal
 

@@ -2,11 +2,11 @@ use Rattle.std.proofs.Common.{◌≡◌, ◌∙◌, ℕ, ◌+◌, ◌*◌, ◌<�
 use Rattle.std.specs.List.{length_refill}
 use Rattle.circuit.specs.Circuit.{Circuit}
 use Rattle.cycle_sim.specs.Standing.{Standing}
-use Rattle.cycle_sim.specs.Levels.{HasAllLevels}
-use Rattle.cycle_sim.proofs.Edges.{edge_keeps}
+use Rattle.levels.specs.Levels.{HasAllLevels}
+use Rattle.levels.proofs.Edges.{edge_keeps}
 use Rattle.cycle_sim.specs.declared.sim.Sim.TheInside.{Inside}
-use Rattle.cycle_sim.specs.Marked.{IsUnmarked}
-use Rattle.cycle_sim.specs.Operands.{AreReaders, HasTaps}
+use Rattle.levels.specs.Marked.{IsUnmarked}
+use Rattle.levels.specs.Operands.{AreReaders, HasTaps}
 use Rattle.cycle_sim.proofs.Quiet.{levels_after}
 use Rattle.cycle_sim.proofs.sim.Sim.advance.Goals as goal
 use Rattle.cycle_sim.proofs.sim.Sim.advance.Goals.{then-self, else-self}
@@ -15,8 +15,8 @@ use Rattle.cycle_sim.proofs.sim.Sim.advance.Goals.{then-self, else-self}
 record Kept (m : Circuit) (sim : Inside) : Type 0 where
   circuit : sim.module.now ≡ m
   levels : HasAllLevels m sim.levels
-  readers : AreReaders m sim.readers.starts.items sim.readers.lists.items
-  taps : HasTaps sim.readers.lists.items sim.readers.tapped
+  readers : AreReaders m sim.readers.starts.items sim.readers.lists
+  taps : HasTaps sim.readers.lists sim.readers.tapped
   room : length m.assigns + length m.regs ≤ 64 * length sim.marks
   moving_room : length m.regs ≤ 64 * length sim.moving
   next_room : length sim.firsts.items ≡ length m.regs

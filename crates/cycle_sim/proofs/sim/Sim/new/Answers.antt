@@ -1,7 +1,8 @@
 use Rattle.std.proofs.Common.{◌+◌, false, length, ap, ◌∙◌, arith}
 use Rattle.std.proofs.lemmas.List.{length-replicate}
 use Rattle.std.proofs.lemmas.Option.{slice_get_within}
-use Rattle.cycle_sim.proofs.Seen.{marked_unmarked}
+use Rattle.circuit.specs.Meaning.{State}
+use Rattle.levels.proofs.Listed.{marked_unmarked}
 use Rattle.cycle_sim.proofs.sim.Sim.new.Goals as goal
 
 pub invariant_of-result : goal.invariant_of-result
@@ -25,7 +26,7 @@ invariant_of-result c =
             let lt = slice_get_within m.regs k q there in
             absurd (marked_unmarked c.in_ok-all.field-0 (length m.assigns + k) (c.in_ok-all.ensures.all (length m.assigns + k) (omega (arith, a, r))) u);
       };
-      at_start = λ e. c.in_ok-low.ensures.regs;
+      at_start = λ e. ap (λ (z : State). z.regs) c.in_ok-low.ensures.low;
       settled = λ e. absurd (cc);
       rests = λ e. absurd (cc);
     }

@@ -1,6 +1,0 @@
-use Rattle.std.proofs.Common.{◌≡◌, map, take}
-use Rattle.circuit.specs.Meaning.{level}
-use Rattle.cycle_sim.proofs.pass.next_levels.Given as goal
-
-abbrev pub invariant-loop-place : goal.invariant-loop-place
-invariant-loop-place l = take l.place l.firsts ≡ map (λ r. level l.levels r.next) (take l.place l.m.regs)

@@ -1,8 +1,0 @@
-use Rattle.std.proofs.Common.{◌≡◌, [], map, replicate, vec_capacity}
-use Rattle.cycle_sim.proofs.running.empty_rows.Given as goal
-
-abbrev pub invariant-loop : goal.invariant-loop
-invariant-loop l = record {
-  empty : map (λ row. row.items) l.rows.items ≡ replicate l.counter [];
-  capacity : map (λ row. vec_capacity row) l.rows.items ≡ replicate l.counter l.cycles;
-}

@@ -1,0 +1,5 @@
+pub mod Rounds
+pub mod Numbering
+pub mod Agreeing
+pub mod Edging
+pub mod Cycles

@@ -1,0 +1,7 @@
+use Rattle.std.proofs.Common.{length}
+use Rattle.event_sim.specs.Orders.{numbered_order}
+use Rattle.event_sim.proofs.Rounds.{Running}
+use Rattle.event_sim.proofs.passes.run_passes.Given as goal
+
+abbrev pub invariant-loop : goal.invariant-loop
+invariant-loop l = Running l.m (numbered_order (length l.m.assigns) l.order) l.fn.levels l.levels l.counter l.activations

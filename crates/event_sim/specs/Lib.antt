@@ -1,0 +1,5 @@
+pub mod Orders
+pub mod Passes
+pub mod Standing
+pub mod Runs
+pub mod Code

@@ -1,0 +1,10 @@
+pub mod Edges
+pub mod Bits
+pub mod Listed
+pub mod Filling
+pub mod Recording
+pub mod Words
+pub mod Counting
+pub mod Grown
+pub mod Flat
+pub mod Stretches
