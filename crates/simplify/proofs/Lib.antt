@@ -1,0 +1,11 @@
+pub mod Times
+pub mod Stepping
+pub mod Steps
+pub mod Matching
+pub mod Simp
+pub mod Inside
+pub mod At
+pub mod Choice
+pub mod Fewer
+pub mod Reduced
+pub mod Passed

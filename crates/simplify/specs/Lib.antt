@@ -1,0 +1,4 @@
+pub mod Laws
+pub mod Simplified
+pub mod Outcomes
+pub mod Passing
