@@ -486,7 +486,7 @@ fn refuses_another_number_of_times(rt: HostRuntime) -> Result<(), Fail> {
 }
 
 // The words are no command.
-fn expect_usage(rt: &impl Abort, alloc: Global, words: &[&str]) -> Result<(), Fail> {
+pub fn expect_usage(rt: &impl Abort, alloc: Global, words: &[&str]) -> Result<(), Fail> {
     let want = (
         Status::Words,
         b"".as_slice(),

@@ -6,6 +6,12 @@ mod certificates;
 #[cfg(test)]
 mod commands;
 #[cfg(test)]
+mod large;
+#[cfg(test)]
 mod modules;
+#[cfg(test)]
+mod orders;
+#[cfg(test)]
+mod simplified;
 #[cfg(test)]
 mod sizes;

@@ -124,7 +124,7 @@ fn as_many_register_bits_as_there_may_be(rt: HostRuntime) -> Result<(), Fail> {
 }
 
 // How many lines of a module begin so.
-fn line_count(module: &[u8], beginning: &str) -> Result<usize, Fail> {
+pub fn line_count(module: &[u8], beginning: &str) -> Result<usize, Fail> {
     let text = str::from_utf8(module).ok().ok_or("no text")?;
     Ok(
         text.lines()

@@ -1,6 +1,10 @@
-//! Tests of the public calls on modules and their texts, against answers known from elsewhere. It has no code of its own.
+//! Tests of the public calls on modules, their texts and their simulators, against answers known from elsewhere. It has no code of its own.
 #![tactic(auto)]
 
+#[cfg(test)]
+mod cycles;
+#[cfg(test)]
+mod events;
 #[cfg(test)]
 mod printing;
 #[cfg(test)]

@@ -22,6 +22,3 @@ pub use laws::{
 };
 pub use network::read_network;
 pub use rules::Rule;
-
-#[cfg(test)]
-mod tests;

@@ -4,9 +4,13 @@
 #[cfg(test)]
 mod modules;
 #[cfg(test)]
+mod network_texts;
+#[cfg(test)]
 mod rows;
 #[cfg(test)]
 mod synthesis;
+#[cfg(test)]
+mod table_texts;
 #[cfg(test)]
 mod tables;
 #[cfg(test)]

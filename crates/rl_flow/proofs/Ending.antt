@@ -13,13 +13,16 @@ use Rattle.rl_jobs.specs.declared.source.Source.TheVariants.{OfNetwork, OfTable}
 use Rattle.rl_jobs.specs.Sources.{terms_of}
 use Rattle.rl_jobs.specs.Checked.{ThreeTexts, three_texts, IsAcceptedText, IsRefusedText, CanBeChecked}
 use Rattle.rl_jobs.specs.Compiled.{HasFewBits, IsModuleText, CanBeCompiled}
+use Rattle.rl_jobs.specs.Simplification.{IsSimplifiedText, CanBeSimplified}
 use Rattle.rl_jobs.specs.Synthesised.{IsSynthesisText, CanBeSynthesised}
 use Rattle.rl_jobs.specs.Values.{IsValueText, CanBeValued}
 use Rattle.rl_jobs.specs.Windows.{IsWindowText, CanBeTabulated}
+use Rattle.rl_flow.specs.Activations.{IsOrderText}
 use Rattle.rl_flow.specs.Levels.{IsLevelText, CanBeSimulated}
-use Rattle.rl_flow.specs.Task.{Task, Compile, Eval, Synth, Tabulate, Sim, Check, Command}
+use Rattle.rl_flow.specs.Counted.{big_text}
+use Rattle.rl_flow.specs.Task.{Task, Compile, Eval, Synth, Simplify, Tabulate, Sim, SimInOrder, Check, Big, Command}
 use Rattle.rl_flow.specs.Asked.{Asked, ShelfState, with_limits, asked, IsTextOf, AreTextsOf, IsTooLong}
-use Rattle.rl_flow.specs.Answers.{OnOne, OnThree, IsText, MayHave, CanBeDone, IsCause}
+use Rattle.rl_flow.specs.Answers.{OnNone, OnOne, OnThree, IsText, MayHave, CanBeDone, IsCause}
 use Rattle.rl_flow.specs.Message.{line_of}
 use Rattle.rl_flow.specs.Status.{status_of}
 use Rattle.rl_flow.specs.Outcome.{OnTexts, HasCause, IsRefused, IsOrGivesWay, NoneRose, PutsLine, EndsBy}
@@ -128,14 +131,22 @@ three (a ∷ b ∷ []) P Q f x = absurd x
 three (a ∷ b ∷ c ∷ []) P Q f x = f (three_texts a b c) x
 three (a ∷ b ∷ c ∷ d ∷ texts) P Q f x = absurd x
 
+-- there is no text, and another thing holds too
+none : (texts : List (List ℕ)) (P Q : Type 0) → (P → Q) → OnNone texts P → OnNone texts Q
+none [] P Q f x = f x
+none (bytes ∷ texts) P Q f x = absurd x
+
 can : (task : Task) (v : Verdict) (texts : List (List ℕ)) (answer : List ℕ) → IsText task v texts answer → CanBeDone task texts
 can Compile verdict.No texts answer x = absurd x
 can (Eval times) verdict.No texts answer x = absurd x
 can Synth verdict.No texts answer x = absurd x
+can Simplify verdict.No texts answer x = absurd x
 can (Tabulate name window) verdict.No texts answer x = absurd x
 can (Sim cycles times) verdict.No texts answer x = absurd x
+can (SimInOrder cycles times order) verdict.No texts answer x = absurd x
 can Check verdict.No texts answer x =
     three texts (λ t. IsRefusedText t answer) CanBeChecked (λ t y. (y.claim, y.read, y.agree)) x
+can (Big n) verdict.No texts answer x = absurd x
 can task verdict.Undecided texts answer x = absurd x
 can Compile verdict.Done texts answer x =
     only texts (λ b. IsModuleText b answer) CanBeCompiled (λ b y. (y.source, y.read, has_few y.source y.few)) x
@@ -143,6 +154,8 @@ can (Eval times) verdict.Done texts answer x =
     only texts (λ b. IsValueText times b answer) (CanBeValued times) (λ b y. (y.source, y.read, y.one_for_each_input)) x
 can Synth verdict.Done texts answer x =
     only texts (λ b. IsSynthesisText b answer) CanBeSynthesised (λ b y. (y.table, y.read)) x
+can Simplify verdict.Done texts answer x =
+    only texts (λ b. IsSimplifiedText b answer) CanBeSimplified (λ b y. (y.network, y.read)) x
 can (Tabulate name window) verdict.Done texts answer x =
     only texts (λ b. IsWindowText name window b answer) (CanBeTabulated name window)
     (λ b y.
@@ -150,16 +163,22 @@ can (Tabulate name window) verdict.Done texts answer x =
     (y.network, y.read, (y.is.place, y.is.named, y.is.in_reach, few))) x
 can (Sim cycles times) verdict.Done texts answer x =
     only texts (λ b. IsLevelText cycles times b answer) (CanBeSimulated times) (λ b y. (y.circuit, y.read, y.one_for_each_input)) x
+can (SimInOrder cycles times order) verdict.Done texts answer x =
+    only texts (λ b. IsOrderText cycles times order b answer) (CanBeSimulated times) (λ b y. (y.levels.circuit, y.levels.read, y.levels.one_for_each_input)) x
 can Check verdict.Done texts answer x =
     three texts (λ t. IsAcceptedText t answer) CanBeChecked (λ t y. (y.claim, y.read, y.agree)) x
+can (Big n) verdict.Done texts answer x = none texts (answer ≡ big_text n) (Unit {0}) (λ e. tt) x
 
 may : (task : Task) (v : Verdict) (texts : List (List ℕ)) (answer : List ℕ) → IsText task v texts answer → MayHave task v
 may Compile verdict.No texts answer x = absurd x
 may (Eval times) verdict.No texts answer x = absurd x
 may Synth verdict.No texts answer x = absurd x
+may Simplify verdict.No texts answer x = absurd x
 may (Tabulate name window) verdict.No texts answer x = absurd x
 may (Sim cycles times) verdict.No texts answer x = absurd x
+may (SimInOrder cycles times order) verdict.No texts answer x = absurd x
 may Check verdict.No texts answer x = tt
+may (Big n) verdict.No texts answer x = absurd x
 may task verdict.Undecided texts answer x = absurd x
 may task verdict.Done texts answer x = tt
 

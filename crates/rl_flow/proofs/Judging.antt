@@ -14,15 +14,16 @@ use Rattle.rl_jobs.specs.declared.source.Source.{Source}
 use Rattle.rl_jobs.specs.Readings.{IsReading, reads_staged}
 use Rattle.rl_jobs.specs.Sources.{SpellsSource, SpellsSoundTable, inputs_of}
 use Rattle.rl_jobs.specs.Compiled.{HasFewBits, CanBeCompiled, IsNotCompiled}
+use Rattle.rl_jobs.specs.Simplification.{CanBeSimplified, IsNotSimplified}
 use Rattle.rl_jobs.specs.Synthesised.{CanBeSynthesised, IsNotSynthesised}
 use Rattle.rl_jobs.specs.Values.{CanBeValued, IsNotValued}
 use Rattle.rl_jobs.specs.Windows.{CanBeWritten, CanBeTabulated, IsNotTabulated}
 use Rattle.verilog_laws.specs.Answers.{HasAnswer}
 use Rattle.rl_flow.specs.Asked.{limits}
 use Rattle.rl_flow.specs.Levels.{IsNoModule, HasOtherPorts, CanBeSimulated, IsNotSimulated}
-use Rattle.rl_flow.specs.Task.{Task, Compile, Eval, Synth, Tabulate, Sim, Check}
+use Rattle.rl_flow.specs.Task.{Task, Compile, Eval, Synth, Simplify, Tabulate, Sim, SimInOrder, Check, Big}
 use Rattle.rl_jobs.specs.Checked.{ThreeTexts, three_texts, Claim, SpellClaim, Agree, CanBeChecked, AreNotChecked}
-use Rattle.rl_flow.specs.Answers.{OnOne, OnThree, CanBeDone, IsCause}
+use Rattle.rl_flow.specs.Answers.{OnNone, OnOne, OnThree, CanBeDone, IsCause}
 
 -- ---- modules
 
@@ -60,6 +61,11 @@ simulates h times =
 
 -- ---- tasks
 
+-- what follows from two facts where there is no text
+pub both_of_none : (texts : List (List ℕ)) (P Q C : Type 0) → (P → Q → C) → OnNone texts P → OnNone texts Q → C
+both_of_none [] P Q C f x y = f x y
+both_of_none (bytes ∷ texts) P Q C f x y = absurd x
+
 -- what follows from two properties of the only text
 pub both : (texts : List (List ℕ)) (P Q : List ℕ → Type 0) (C : Type 0) → ((bytes : List ℕ) → P bytes → Q bytes → C) → OnOne texts P → OnOne texts Q → C
 both [] P Q C f x y = absurd x
@@ -79,6 +85,7 @@ pub record Readings : Type 0 where
   pub compiling : IsReading (λ bytes s. SpellsSource bytes s × HasFewBits s) IsNotCompiled
   pub evaluating : (times : List Time) → IsReading (λ bytes s. SpellsSource bytes s × (length times ≡ length (inputs_of s))) (IsNotValued times)
   pub synthesising : IsReading SpellsSoundTable IsNotSynthesised
+  pub simplifying : IsReading SpellsNetwork IsNotSimplified
   pub tabulating : (name : List ℕ) (window : ℕ) → IsReading (λ bytes n. SpellsNetwork bytes n × CanBeWritten name window n) (IsNotTabulated name window)
   pub simulating : (times : List Time) → IsReading (λ bytes m. SpellsModule bytes m × (length times ≡ length m.inputs)) (IsNotSimulated times)
   pub checking : IsReading (λ texts c. SpellClaim texts c × Agree c) AreNotChecked
@@ -90,12 +97,17 @@ one_fault h (Eval times) texts f g x y =
     both texts (λ b. IsNotValued times b f) (λ b. IsNotValued times b g) (f ≡ g) (λ b. (h.evaluating times).one_fault b f g) x y
 one_fault h Synth texts f g x y =
     both texts (λ b. IsNotSynthesised b f) (λ b. IsNotSynthesised b g) (f ≡ g) (λ b. h.synthesising.one_fault b f g) x y
+one_fault h Simplify texts f g x y =
+    both texts (λ b. IsNotSimplified b f) (λ b. IsNotSimplified b g) (f ≡ g) (λ b. h.simplifying.one_fault b f g) x y
 one_fault h (Tabulate name window) texts f g x y =
     both texts (λ b. IsNotTabulated name window b f) (λ b. IsNotTabulated name window b g) (f ≡ g) (λ b. (h.tabulating name window).one_fault b f g) x y
 one_fault h (Sim cycles times) texts f g x y =
     both texts (λ b. IsNotSimulated times b f) (λ b. IsNotSimulated times b g) (f ≡ g) (λ b. (h.simulating times).one_fault b f g) x y
+one_fault h (SimInOrder cycles times order) texts f g x y =
+    both texts (λ b. IsNotSimulated times b f) (λ b. IsNotSimulated times b g) (f ≡ g) (λ b. (h.simulating times).one_fault b f g) x y
 one_fault h Check texts f g x y =
     both_of_three texts (λ t. AreNotChecked t f) (λ t. AreNotChecked t g) (f ≡ g) (λ t. h.checking.one_fault t f g) x y
+one_fault h (Big n) texts f g x y = absurd x
 
 pub no_fault : Readings → (task : Task) (texts : List (List ℕ)) (f : Fault) → CanBeDone task texts → IsCause task texts f → ⊥
 no_fault h Compile texts f x y =
@@ -104,12 +116,22 @@ no_fault h (Eval times) texts f x y =
     both texts (CanBeValued times) (λ b. IsNotValued times b f) ⊥ (λ b can bad. (h.evaluating times).not_both b can.0 f (can.1, can.2) bad) x y
 no_fault h Synth texts f x y =
     both texts CanBeSynthesised (λ b. IsNotSynthesised b f) ⊥ (λ b can bad. h.synthesising.not_both b can.0 f can.1 bad) x y
+no_fault h Simplify texts f x y =
+    both texts CanBeSimplified (λ b. IsNotSimplified b f) ⊥ (λ b can bad. h.simplifying.not_both b can.0 f can.1 bad) x y
 no_fault h (Tabulate name window) texts f x y =
     both texts (CanBeTabulated name window) (λ b. IsNotTabulated name window b f) ⊥ (λ b can bad. (h.tabulating name window).not_both b can.0 f (can.1, can.2) bad) x y
 no_fault h (Sim cycles times) texts f x y =
     both texts (CanBeSimulated times) (λ b. IsNotSimulated times b f) ⊥ (λ b can bad. (h.simulating times).not_both b can.0 f (can.1, can.2) bad) x y
+no_fault h (SimInOrder cycles times order) texts f x y =
+    both texts (CanBeSimulated times) (λ b. IsNotSimulated times b f) ⊥ (λ b can bad. (h.simulating times).not_both b can.0 f (can.1, can.2) bad) x y
 no_fault h Check texts f x y =
     both_of_three texts CanBeChecked (λ t. AreNotChecked t f) ⊥ (λ t can bad. h.checking.not_both t can.0 f (can.1, can.2) bad) x y
+no_fault h (Big n) texts f x y = absurd y
+
+-- what holds where there is no text
+none : (texts : List (List ℕ)) (P : Type 0) → length texts ≡ 0 → P → OnNone texts P
+none [] P e p = p
+none (bytes ∷ texts) P e p = absurd (cc)
 
 -- what follows for one text from what follows for each
 only : (texts : List (List ℕ)) (P : List ℕ → Type 0) (Q : Fault → List ℕ → Type 0) → length texts ≡ 1 → ((bytes : List ℕ) → P bytes ⊎ ((f : Fault) × Q f bytes)) →
@@ -137,9 +159,13 @@ done_or_fault h Compile texts e = only texts CanBeCompiled (λ f b. IsNotCompile
 done_or_fault h (Eval times) texts e = only texts (CanBeValued times) (λ f b. IsNotValued times b f) e
     (λ b. flat Source (SpellsSource b) (λ s. length times ≡ length (inputs_of s)) ((f : Fault) × IsNotValued times b f) ((h.evaluating times).some b))
 done_or_fault h Synth texts e = only texts CanBeSynthesised (λ f b. IsNotSynthesised b f) e h.synthesising.some
+done_or_fault h Simplify texts e = only texts CanBeSimplified (λ f b. IsNotSimplified b f) e h.simplifying.some
 done_or_fault h (Tabulate name window) texts e = only texts (CanBeTabulated name window) (λ f b. IsNotTabulated name window b f) e
     (λ b. flat Net (SpellsNetwork b) (CanBeWritten name window) ((f : Fault) × IsNotTabulated name window b f) ((h.tabulating name window).some b))
 done_or_fault h (Sim cycles times) texts e = only texts (CanBeSimulated times) (λ f b. IsNotSimulated times b f) e
     (λ b. flat Circuit (SpellsModule b) (λ m. length times ≡ length m.inputs) ((f : Fault) × IsNotSimulated times b f) ((h.simulating times).some b))
+done_or_fault h (SimInOrder cycles times order) texts e = only texts (CanBeSimulated times) (λ f b. IsNotSimulated times b f) e
+    (λ b. flat Circuit (SpellsModule b) (λ m. length times ≡ length m.inputs) ((f : Fault) × IsNotSimulated times b f) ((h.simulating times).some b))
 done_or_fault h Check texts e = three texts CanBeChecked (λ f t. AreNotChecked t f) e
     (λ t. flat Claim (SpellClaim t) Agree ((f : Fault) × AreNotChecked t f) (h.checking.some t))
+done_or_fault h (Big n) texts e = inl (none texts (Unit {0}) e tt)

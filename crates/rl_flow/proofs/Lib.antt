@@ -1,5 +1,13 @@
 pub mod Asking
 pub mod Ending
 pub mod Judging
+pub mod Simulated
 pub mod Loads
 pub mod OneText
+pub mod Timed
+pub mod DelayBits
+pub mod ShortDelays
+pub mod Histories
+pub mod Counting
+pub mod Reading
+pub mod Marks

@@ -1,15 +1,23 @@
 -- What a task makes of the texts of its files, and why it is refused.
-use Rattle.std.specs.Prelude.{ℕ, List, [], ◌∷◌}
+use Rattle.std.specs.Prelude.{◌≡◌, ℕ, List, [], ◌∷◌}
 use Rattle.rl_jobs.specs.declared.fault.Fault.{Fault}
 use Rattle.rl_jobs.specs.Checked.{ThreeTexts, three_texts, IsAcceptedText, IsRefusedText, CanBeChecked, AreNotChecked}
 use Rattle.rl_jobs.specs.Compiled.{IsModuleText, CanBeCompiled, IsNotCompiled}
+use Rattle.rl_jobs.specs.Simplification.{IsSimplifiedText, CanBeSimplified, IsNotSimplified}
 use Rattle.rl_jobs.specs.Synthesised.{IsSynthesisText, CanBeSynthesised, IsNotSynthesised}
 use Rattle.rl_jobs.specs.Values.{IsValueText, CanBeValued, IsNotValued}
 use Rattle.rl_jobs.specs.Windows.{IsWindowText, CanBeTabulated, IsNotTabulated}
+use Rattle.rl_flow.specs.Counted.{big_text}
 use Rattle.rl_flow.specs.Levels.{IsLevelText, CanBeSimulated, IsNotSimulated}
-use Rattle.rl_flow.specs.Task.{Task, Compile, Eval, Synth, Tabulate, Sim, Check}
+use Rattle.rl_flow.specs.Activations.{IsOrderText}
+use Rattle.rl_flow.specs.Task.{Task, Compile, Eval, Synth, Simplify, Tabulate, Sim, SimInOrder, Check, Big}
 use Rattle.rl_flow.specs.declared.verdict.Verdict.{Verdict}
 use Rattle.rl_flow.specs.declared.verdict.Verdict.TheVariants as verdict
+
+-- there is no text, and this holds
+abbrev pub OnNone : List (List ℕ) → Type 0 → Type 0
+OnNone [] P = P
+OnNone (text ∷ texts) P = ⊥
 
 -- there is one text, with this property
 abbrev pub OnOne : List (List ℕ) → (List ℕ → Type 0) → Type 0
@@ -32,9 +40,12 @@ abbrev pub IsDoneText : Task → List (List ℕ) → List ℕ → Type 0
 IsDoneText Compile texts answer = OnOne texts (λ bytes. IsModuleText bytes answer)
 IsDoneText (Eval times) texts answer = OnOne texts (λ bytes. IsValueText times bytes answer)
 IsDoneText Synth texts answer = OnOne texts (λ bytes. IsSynthesisText bytes answer)
+IsDoneText Simplify texts answer = OnOne texts (λ bytes. IsSimplifiedText bytes answer)
 IsDoneText (Tabulate name window) texts answer = OnOne texts (λ bytes. IsWindowText name window bytes answer)
 IsDoneText (Sim cycles times) texts answer = OnOne texts (λ bytes. IsLevelText cycles times bytes answer)
+IsDoneText (SimInOrder cycles times order) texts answer = OnOne texts (λ bytes. IsOrderText cycles times order bytes answer)
 IsDoneText Check texts answer = OnThree texts (λ three. IsAcceptedText three answer)
+IsDoneText (Big n) texts answer = OnNone texts (answer ≡ big_text n)
 
 -- the text by which a task is answered by no: status 1
 abbrev pub IsNoText : Task → List (List ℕ) → List ℕ → Type 0
@@ -69,9 +80,12 @@ abbrev pub CanBeDone : Task → List (List ℕ) → Type 0
 CanBeDone Compile texts = OnOne texts CanBeCompiled
 CanBeDone (Eval times) texts = OnOne texts (CanBeValued times)
 CanBeDone Synth texts = OnOne texts CanBeSynthesised
+CanBeDone Simplify texts = OnOne texts CanBeSimplified
 CanBeDone (Tabulate name window) texts = OnOne texts (CanBeTabulated name window)
 CanBeDone (Sim cycles times) texts = OnOne texts (CanBeSimulated times)
+CanBeDone (SimInOrder cycles times order) texts = OnOne texts (CanBeSimulated times)
 CanBeDone Check texts = OnThree texts CanBeChecked
+CanBeDone (Big n) texts = OnNone texts (Unit {0})
 
 -- This fault of the texts keeps the task from being done. Of several faults it is the first: file by file that of its spelling, then
 -- what must agree between the files and the words, then the limits of the task.
@@ -79,6 +93,9 @@ abbrev pub IsCause : Task → List (List ℕ) → Fault → Type 0
 IsCause Compile texts f = OnOne texts (λ bytes. IsNotCompiled bytes f)
 IsCause (Eval times) texts f = OnOne texts (λ bytes. IsNotValued times bytes f)
 IsCause Synth texts f = OnOne texts (λ bytes. IsNotSynthesised bytes f)
+IsCause Simplify texts f = OnOne texts (λ bytes. IsNotSimplified bytes f)
 IsCause (Tabulate name window) texts f = OnOne texts (λ bytes. IsNotTabulated name window bytes f)
 IsCause (Sim cycles times) texts f = OnOne texts (λ bytes. IsNotSimulated times bytes f)
+IsCause (SimInOrder cycles times order) texts f = OnOne texts (λ bytes. IsNotSimulated times bytes f)
 IsCause Check texts f = OnThree texts (λ three. AreNotChecked three f)
+IsCause (Big n) texts f = ⊥

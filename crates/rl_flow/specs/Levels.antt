@@ -5,7 +5,7 @@ use Rattle.verilog_text.specs.declared.rule.Rule.{Rule}
 use Rattle.circuit.specs.Circuit.{Circuit}
 use Rattle.circuit.specs.Meaning.{State, IsHistory, HasOneHistory, levels_from}
 use Rattle.verilog_text.specs.Spelling.{SpellsModule, IsBroken}
-use Rattle.cycle_sim.specs.Digits.{output_rows}
+use Rattle.levels.specs.Digits.{output_rows}
 use Rattle.rl_jobs.specs.declared.fault.Fault.{Fault}
 use Rattle.rl_jobs.specs.declared.fault.Fault.TheVariants as fault
 

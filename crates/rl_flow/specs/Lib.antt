@@ -4,7 +4,11 @@ pub mod Task
 pub mod Request
 pub mod Asked
 pub mod Levels
+pub mod Activations
 pub mod Answers
 pub mod Jobs
 pub mod Message
 pub mod Outcome
+pub mod Joined
+pub mod Compared
+pub mod Counted

@@ -1,21 +1,26 @@
 -- What words ask for.
-use Rattle.std.specs.Prelude.{ℕ, ◌&&◌, if◌then◌else◌, List, [], ◌∷◌, codes, Option, Some, None}
+use Rattle.std.specs.Prelude.{ℕ, ◌-◌, ◌&&◌, if◌then◌else◌, List, [], ◌∷◌, length, take, codes, Option, Some, None}
 use Rattle.std.specs.Option.{option_map}
 use Rattle.std.specs.Str.{bytes_eq}
 use Rattle.std.specs.Str.Parse.{digits_value}
 use Rattle.rl_time.specs.declared.time.Time.{Time}
-use Rattle.rl_flow.specs.Words.{is_file_word, is_number_word, is_cycles_word, is_name_word, times_of}
+use Rattle.rl_flow.specs.Words.{is_file_word, is_number_word, is_cycles_word, is_big_word, is_name_word, times_of, names_order, order_word}
 
--- What is to be done with files: compile its source; evaluate its source at times; write the network of its table; write the
--- table of its network's output of this name, on times up to a number; simulate its module for some cycles, with inputs that
--- rise at times; check by the trees of the third file that the networks of the first two have equal outputs
+-- What is to be done with files: compile its source; evaluate its source at times; write the network of its table; write its
+-- network simplified; write the table of its network's output of this name, on times up to a number; simulate its module for
+-- some cycles, with inputs that rise at times; the same by activations in a numbered order; check by the trees of the third file
+-- that the networks of the first two have equal outputs; make a large network from a number, and compile, simulate and compare
+-- it, without a file
 pub data Task : Type 0 where
   Compile : Task
   Eval : List Time → Task
   Synth : Task
+  Simplify : Task
   Tabulate : List ℕ → ℕ → Task
   Sim : ℕ → List Time → Task
+  SimInOrder : ℕ → List Time → ℕ → Task
   Check : Task
+  Big : ℕ → Task
 
 -- the names of the files, in order, and what is to be done with them
 pub record Command : Type 0 where
@@ -39,9 +44,19 @@ tabulate_task (a ∷ b ∷ c ∷ words) = None
 tabulate_task (a ∷ []) = None
 tabulate_task [] = None
 
--- CYCLES TIME..
+abbrev pub in_order : ℕ → Option (List Time) → Option ℕ → Option Task
+in_order cycles None order = None
+in_order cycles (Some times) None = None
+in_order cycles (Some times) (Some order) = Some (SimInOrder cycles times order)
+
+-- TIME.. [--order N]
+abbrev pub timed_task : ℕ → List (List ℕ) → Option Task
+timed_task cycles words =
+    if names_order words then in_order cycles (times_of (take (length words - 2) words)) (order_word words) else option_map (Sim cycles) (times_of words)
+
+-- CYCLES TIME.. [--order N]
 abbrev pub sim_task : List (List ℕ) → Option Task
-sim_task (cycles ∷ times) = if is_cycles_word cycles then option_map (Sim (digits_value 10 cycles)) (times_of times) else None
+sim_task (cycles ∷ words) = if is_cycles_word cycles then timed_task (digits_value 10 cycles) words else None
 sim_task [] = None
 
 -- the task of the first word of a command with one file, and of the words after the file
@@ -50,6 +65,7 @@ task_of command words =
     if bytes_eq command (codes "compile") then alone Compile words
     else if bytes_eq command (codes "eval") then eval_task words
     else if bytes_eq command (codes "synth") then alone Synth words
+    else if bytes_eq command (codes "simplify") then alone Simplify words
     else if bytes_eq command (codes "tabulate") then tabulate_task words
     else if bytes_eq command (codes "sim") then sim_task words
     else None
@@ -63,14 +79,23 @@ check_command (a ∷ b ∷ []) = None
 check_command (a ∷ []) = None
 check_command [] = None
 
+-- N
+unfoldable pub big_command : List (List ℕ) → Option Command
+big_command (n ∷ []) = if is_big_word n then Some (record { files = []; task = Big (digits_value 10 n) }) else None
+big_command (a ∷ b ∷ words) = None
+big_command [] = None
+
 -- a first word, FILE, and the words after it
 unfoldable pub of_one_file : List ℕ → List (List ℕ) → Option Command
 of_one_file command (file ∷ words) =
     if is_file_word file then option_map (λ task. record { files = file ∷ []; task = task }) (task_of command words) else None
 of_one_file command [] = None
 
--- The command of the words, if they are one: `compile FILE`, `eval FILE TIME..`, `synth FILE`, `tabulate FILE NAME WINDOW`,
--- `sim FILE CYCLES TIME..` or `check FILE FILE FILE`.
+-- The command of the words, if they are one: `compile FILE`, `eval FILE TIME..`, `synth FILE`, `simplify FILE`,
+-- `tabulate FILE NAME WINDOW`, `sim FILE CYCLES TIME.. [--order N]`, `check FILE FILE FILE` or `big N`.
 unfoldable pub command_of : List (List ℕ) → Option Command
-command_of (command ∷ words) = if bytes_eq command (codes "check") then check_command words else of_one_file command words
+command_of (command ∷ words) =
+    if bytes_eq command (codes "check") then check_command words
+    else if bytes_eq command (codes "big") then big_command words
+    else of_one_file command words
 command_of [] = None

@@ -1,5 +1,5 @@
 -- The words of a command.
-use Rattle.std.specs.Prelude.{ℕ, Bool, not, ◌&&◌, ◌||◌, ◌==◌, nat_le, if◌then◌else◌, List, [], ◌∷◌, length, map, codes, decimal, slice_index_or, Option, Some, None, String, string_bytes}
+use Rattle.std.specs.Prelude.{ℕ, ◌-◌, Bool, not, ◌&&◌, ◌||◌, ◌==◌, nat_le, if◌then◌else◌, List, [], ◌∷◌, length, map, codes, decimal, slice_index_or, Option, Some, None, String, string_bytes}
 use Rattle.std.specs.Option.{option_map}
 use Rattle.std.specs.List.{list_all}
 use Rattle.std.specs.Str.{bytes_eq}
@@ -58,6 +58,18 @@ is_name_word word = nat_le 1 (length word) && nat_le (length word) 32 && is_lett
 -- a word that writes a number of cycles: 1 to 100,000
 abbrev pub is_cycles_word : List ℕ → Bool
 is_cycles_word word = is_number_word 100000 word && nat_le 1 (digits_value 10 word)
+
+-- the last two words are `--order` and another
+abbrev pub names_order : List (List ℕ) → Bool
+names_order words = nat_le 2 (length words) && bytes_eq (slice_index_or words (length words - 2) []) (codes "--order")
+
+-- the number of an order that the last word writes: at most 1,000,000,000
+abbrev pub order_word : List (List ℕ) → Option ℕ
+order_word words = number_word 1000000000 (slice_index_or words (length words - 1) [])
+
+-- a word that writes the number of a large network: 1 to 16,384
+abbrev pub is_big_word : List ℕ → Bool
+is_big_word word = is_number_word 16384 word && nat_le 1 (digits_value 10 word)
 
 -- the words as lists of bytes
 abbrev pub texts_of : List (String Global) → List (List ℕ)

@@ -1,16 +1,22 @@
 //! With texts, as many as its files, a task can be done, or is refused for exactly one fault, and they fix its answer; and a
 //! text is read as exactly one module, or has exactly one fault.
-ghost use Rattle.std.specs.Prelude.{◌≡◌, ◌⊎◌, ℕ, List, length};
+ghost use Rattle.std.specs.Prelude.{◌≡◌, ◌⊎◌, ◌∷◌, [], ℕ, List, length};
 ghost use Rattle.rl_time.specs.declared.time.Time.{Time};
 ghost use Rattle.verilog_text.specs.Spelling.{SpellsModule};
 ghost use Rattle.rl_jobs.specs.Readings.{IsReading};
 ghost use Rattle.rl_jobs.specs.declared.fault.Fault.{Fault};
+ghost use Rattle.rl_jobs.specs.declared.source.Source.{Source};
+ghost use Rattle.rl_jobs.specs.Sources.{SpellsSource, inputs_of};
 ghost use Rattle.rl_flow.specs.declared.verdict.Verdict.{Verdict};
+ghost use Rattle.rl_flow.specs.declared.verdict.Verdict.TheVariants.{Done};
 ghost use Rattle.rl_flow.specs.Asked.{limits};
+ghost use Rattle.rl_flow.specs.Activations.{IsOrderText};
 ghost use Rattle.rl_flow.specs.Levels.{IsLevelText, IsNoModule, IsNotSimulated};
-ghost use Rattle.rl_flow.specs.Task.{Task};
+ghost use Rattle.rl_flow.specs.Task.{Task, Compile};
 ghost use Rattle.rl_flow.specs.Answers.{CanBeDone, IsCause, IsText};
+ghost use Rattle.rl_flow.specs.Joined.{IsSimulated};
 
+use event_sim::laws::one_run;
 use rl_jobs::laws;
 use verilog_laws::spells_or_breaks;
 use verilog_text::spelling_laws;
@@ -40,6 +46,15 @@ pub fn one_level_text()
     reading_modules();
 }
 
+/// At given times, for so many cycles, in a given order, bytes have at most one text of levels and activations.
+pub fn one_order_text()
+    ensures { (cycles : ℕ) (times : List Time) (order : ℕ) (bytes a b : List ℕ) →
+        IsOrderText cycles times order bytes a → IsOrderText cycles times order bytes b → a ≡ b }
+{
+    reading_modules();
+    one_run();
+}
+
 /// For each task and verdict, texts have at most one answer.
 pub fn one_text()
     ensures { (task : Task) (v : Verdict) (texts : List (List ℕ)) (a b : List ℕ) → IsText task v texts a → IsText task v texts b → a ≡ b }
@@ -47,9 +62,21 @@ pub fn one_text()
     laws::one_module_text();
     laws::one_value_text();
     laws::one_synthesis_text();
+    laws::one_simplified_text();
     laws::one_window_text();
     laws::one_check_text();
     one_level_text();
+    one_order_text();
+}
+
+/// A module that `compile` writes is never refused by `sim`, also not for its length: for any number of cycles and one time
+/// for each input, `sim` writes the levels of the source's function, and nothing else.
+pub fn compiled_modules_are_simulated()
+    ensures { (bytes text : List ℕ) (s : Source) (cycles : ℕ) (times : List Time) → IsText Compile Done (bytes ∷ []) text →
+        SpellsSource bytes s → length times ≡ length (inputs_of s) → IsSimulated s cycles times text }
+{
+    laws::reading_sources();
+    one_text();
 }
 
 /// For each task, texts have at most one fault for which they are refused, and none where the task can be done.
@@ -60,6 +87,7 @@ pub fn one_fault()
     laws::compiling();
     laws::evaluating();
     laws::synthesising();
+    laws::simplifying();
     laws::tabulating();
     laws::checking();
     simulating();
@@ -72,6 +100,7 @@ pub fn done_or_fault()
     laws::compiling();
     laws::evaluating();
     laws::synthesising();
+    laws::simplifying();
     laws::tabulating();
     laws::checking();
     simulating();

@@ -3,9 +3,14 @@
 //! `NoMemory` is answered if memory ran out.
 #![tactic(auto)]
 
+mod big;
+mod comparing;
+mod compiling;
+mod counts;
 pub mod laws;
 mod loading;
 mod message;
+mod order;
 mod performing;
 mod refusal;
 mod request;
@@ -16,6 +21,7 @@ mod times;
 mod verdict;
 mod words;
 
+pub use big_input::big_input;
 pub use message::{ErrorLine, line};
 pub use performing::perform;
 pub use refusal::Refusal;

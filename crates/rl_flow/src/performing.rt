@@ -5,15 +5,17 @@ ghost use Rattle.rl_io.specs.Files.{Files};
 ghost use Rattle.rl_jobs.specs.Sources.{FailsBy};
 ghost use Rattle.rl_jobs.specs.declared.fault.Fault.{Fault};
 ghost use Rattle.rl_flow.specs.Words.{texts_of};
-ghost use Rattle.rl_flow.specs.Task.{Check, Command, command_of};
+ghost use Rattle.rl_flow.specs.Task.{Big, Check, Command, command_of};
 ghost use Rattle.rl_flow.specs.Request.{task, IsSmall};
 ghost use Rattle.rl_flow.specs.Asked.{limits, asked, shelf_state, AreWithin, IsTooLong};
 ghost use Rattle.rl_flow.specs.Answers.{IsText, IsCause, CanBeDone, MayHave};
 ghost use Rattle.rl_flow.specs.Outcome.{OnTexts, Answers, Leaves, HasCause, IsRefused, IsOrGivesWay, NoneRose, GaveFor};
 ghost use Rattle.rl_flow.specs.declared.refusal.Refusal.TheVariants as why;
 
+use crate::big::big_text;
 use crate::laws::one_fault;
 use crate::loading::load_files;
+use crate::order::sim_in_order;
 use crate::refusal::Refusal;
 use crate::request::Request;
 use crate::sim::sim;
@@ -24,6 +26,7 @@ use rl_jobs::JobError;
 use rl_jobs::check::check;
 use rl_jobs::compile::compile;
 use rl_jobs::eval::eval;
+use rl_jobs::simplification::simplify;
 use rl_jobs::synth::synth;
 use rl_jobs::tabulate::tabulate;
 use std::alloc::Global;
@@ -34,11 +37,14 @@ fn limits(request: &Request<'_>) -> &'static [u64]
     ensures small { All (λ l. l ≤ 67108864) result.now }
 {
     match request {
-        Request::Compile | Request::Eval(_) | Request::Synth | Request::Tabulate(_, _) => {
-            &[1_048_576]
-        }
-        Request::Sim(_, _) => &[16_777_216],
+        Request::Compile
+        | Request::Eval(_)
+        | Request::Synth
+        | Request::Simplify
+        | Request::Tabulate(_, _) => &[1_048_576],
+        Request::Sim(_, _) | Request::SimInOrder(_, _, _) => &[16_777_216],
         Request::Check => &[1_048_576, 1_048_576, 67_108_864],
+        Request::Big(_) => &[],
     }
 }
 
@@ -84,6 +90,20 @@ fn check_answer(alloc: Global, texts: &[Vec<u8>]) -> Result<Answer, JobError>
     })
 }
 
+/// What is counted of the large network that is made from a number. There are no texts.
+fn big_answer(alloc: Global, n: u32, texts: &[Vec<u8>]) -> Result<Answer, JobError>
+    requires none { length texts.now ≡ 0 }
+    requires some { 1 ≤ n }
+    requires few { n ≤ 16384 }
+    ensures text { IfOk result (λ a. IsText (Big n) a.verdict (map (λ t. t.items) texts.now) a.text.items) }
+    ensures cause { IfErr result (FailsBy (IsCause (Big n) (map (λ t. t.items) texts.now))) }
+{
+    match big_text(alloc, n) {
+        Ok(text) => Ok(Answer::done(text)),
+        Err(_) => Err(JobError::NoMemory),
+    }
+}
+
 /// The answer to a request, from the texts of its files.
 fn answer_to(alloc: Global, request: &Request<'_>, texts: &[Vec<u8>]) -> Result<Answer, JobError>
     requires count { length texts.now ≡ length (limits (task request.now)) }
@@ -96,6 +116,7 @@ fn answer_to(alloc: Global, request: &Request<'_>, texts: &[Vec<u8>]) -> Result<
         Request::Compile => Ok(Answer::done(compile(alloc, only(texts))?)),
         Request::Eval(times) => Ok(Answer::done(eval(alloc, only(texts), times.as_slice())?)),
         Request::Synth => Ok(Answer::done(synth(alloc, only(texts))?)),
+        Request::Simplify => Ok(Answer::done(simplify(alloc, only(texts))?)),
         Request::Tabulate(name, window) => {
             let text = tabulate(alloc, only(texts), name.as_bytes(), *window)?;
             Ok(Answer::done(text))
@@ -104,7 +125,12 @@ fn answer_to(alloc: Global, request: &Request<'_>, texts: &[Vec<u8>]) -> Result<
             let text = sim(alloc, only(texts), *cycles, times.as_slice())?;
             Ok(Answer::done(text))
         }
+        Request::SimInOrder(cycles, times, order) => {
+            let text = sim_in_order(alloc, only(texts), *cycles, times.as_slice(), *order)?;
+            Ok(Answer::done(text))
+        }
         Request::Check => check_answer(alloc, texts),
+        Request::Big(n) => big_answer(alloc, *n, texts),
     }
 }
 

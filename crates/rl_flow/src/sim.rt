@@ -1,7 +1,7 @@
 ghost use Rattle.std.specs.Prelude.{◌≡◌, ◌≤◌, ◌++◌, ℕ, List, length, map, OnOk, IfOk, IfErr};
 ghost use Rattle.circuit.specs.Meaning.{State, IsHistory, levels_from};
 ghost use Rattle.verilog_text.specs.Spelling.{SpellsModule};
-ghost use Rattle.cycle_sim.specs.Digits.{output_rows};
+ghost use Rattle.levels.specs.Digits.{output_rows};
 ghost use Rattle.rl_jobs.specs.declared.fault.Fault.TheVariants as fault;
 ghost use Rattle.rl_jobs.specs.declared.error.JobError.TheVariants.{Refused};
 ghost use Rattle.rl_jobs.specs.Sources.{FailsBy};
@@ -39,6 +39,22 @@ fn module_of(alloc: Global, bytes: &[u8]) -> Result<Module, JobError>
     }
 }
 
+/// The module of a file's bytes, if it has as many inputs as there are times. Where it has another number, the fault holds that.
+pub fn module_for(alloc: Global, bytes: &[u8], times: &[Time]) -> Result<Module, JobError>
+    requires short { length bytes.now ≤ 16777216 }
+    ensures circuit { IfOk result (SpellsModule bytes.now) }
+    ensures inputs { IfOk result (λ m. length times.now ≡ length m.inputs) }
+    ensures cause { IfErr result (FailsBy (IsNotSimulated times.now bytes.now)) }
+{
+    let m = module_of(alloc, bytes)?;
+    m.rules();
+    let inputs = m.inputs().len();
+    if times.len() != inputs {
+        return Err(JobError::Refused(Fault::Inputs(inputs as u64)));
+    }
+    Ok(m)
+}
+
 /// Adds the line of an output at the end.
 fn put_levels(text: &mut Vec<u8>, name: &Name, digits: &[u8]) -> Result<(), NoMemory>
     ensures { OnOk result (text.new.items ≡ text.old.items ++ level_line name.now digits.now) }
@@ -51,7 +67,7 @@ fn put_levels(text: &mut Vec<u8>, name: &Name, digits: &[u8]) -> Result<(), NoMe
 }
 
 /// The lines of outputs of these names with these digits, in order.
-fn level_lines(alloc: Global, names: &[Name], rows: &[Vec<u8>]) -> Result<Vec<u8>, NoMemory>
+pub fn level_lines(alloc: Global, names: &[Name], rows: &[Vec<u8>]) -> Result<Vec<u8>, NoMemory>
     requires { length rows.now ≡ length names.now }
     ensures { IfOk result (λ text. text.items ≡ level_lines names.now (map (λ row. row.items) rows.now)) }
 {
@@ -85,11 +101,7 @@ pub fn sim(alloc: Global, bytes: &[u8], cycles: u32, times: &[Time]) -> Result<V
     ensures cause { IfErr result (FailsBy (IsNotSimulated times.now bytes.now)) }
 {
     laws::one_history();
-    let m = module_of(alloc, bytes)?;
+    let m = module_for(alloc, bytes, times)?;
     m.rules();
-    let inputs = m.inputs().len();
-    if times.len() != inputs {
-        return Err(JobError::Refused(Fault::Inputs(inputs as u64)));
-    }
     Ok(lines_of(alloc, &m, times, cycles)?)
 }

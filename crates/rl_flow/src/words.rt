@@ -1,9 +1,9 @@
-ghost use Rattle.std.specs.Prelude.{◌≡◌, ◌≤◌, length, IfSome};
+ghost use Rattle.std.specs.Prelude.{◌≡◌, ◌≤◌, ◌-◌, true, length, take, IfSome};
 ghost use Rattle.std.specs.List.{list_all};
 ghost use Rattle.std.specs.Option.{option_map};
 ghost use Rattle.net_model.specs.Early.{IsAtMost};
-ghost use Rattle.rl_flow.specs.Words.{is_file_word, number_word, time_word, times_of, is_letter, is_name_byte, is_name_word, texts_of};
-ghost use Rattle.rl_flow.specs.Task.{alone, eval_task, tabulate_task, sim_task, task_of, check_command, of_one_file, command_of};
+ghost use Rattle.rl_flow.specs.Words.{is_file_word, number_word, time_word, times_of, is_letter, is_name_byte, is_name_word, names_order, order_word, texts_of};
+ghost use Rattle.rl_flow.specs.Task.{alone, eval_task, tabulate_task, timed_task, sim_task, task_of, check_command, big_command, of_one_file, command_of};
 ghost use Rattle.rl_flow.specs.Asked.{limits};
 ghost use Rattle.rl_flow.specs.Request.{task, IsSmall};
 
@@ -122,7 +122,46 @@ fn tabulate_request(words: &[String]) -> Option<Request<'_>>
     Some(Request::Tabulate(name.as_str(), window as u32))
 }
 
-/// The request of the words `CYCLES TIME..`.
+/// Whether the last two words are `--order` and another.
+fn names_order(words: &[String]) -> bool
+    ensures { result ≡ names_order (texts_of words.now) }
+{
+    let count = words.len();
+    count >= 2 && words[count - 2].as_str() == "--order"
+}
+
+/// The times that the words before `--order N` write.
+fn times_before(words: &[String]) -> Option<Times>
+    requires { names_order (texts_of words.now) ≡ true }
+    ensures { result ≡ times_of (take (length words.now - 2) (texts_of words.now)) }
+{
+    read_times(&words[..words.len() - 2])
+}
+
+/// The number of an order that the last word writes.
+fn order_word(words: &[String]) -> Option<u64>
+    requires { names_order (texts_of words.now) ≡ true }
+    ensures { result ≡ order_word (texts_of words.now) }
+{
+    number_word(words[words.len() - 1].as_str(), 1_000_000_000)
+}
+
+/// The request of the words `TIME..` or `TIME.. --order N`, for so many cycles.
+fn timed_request(cycles: u32, words: &[String]) -> Option<Request<'_>>
+    requires some_cycles { 1 ≤ cycles }
+    requires few_cycles { cycles ≤ 100000 }
+    ensures task { option_map task result ≡ timed_task cycles (texts_of words.now) }
+    ensures small { IfSome result IsSmall }
+{
+    if !names_order(words) {
+        return Some(Request::Sim(cycles, read_times(words)?));
+    }
+    let times = times_before(words)?;
+    let order = order_word(words)?;
+    Some(Request::SimInOrder(cycles, times, order))
+}
+
+/// The request of the words `CYCLES TIME.. [--order N]`.
 fn sim_request(words: &[String]) -> Option<Request<'_>>
     ensures task { option_map task result ≡ sim_task (texts_of words.now) }
     ensures small { IfSome result IsSmall }
@@ -134,7 +173,7 @@ fn sim_request(words: &[String]) -> Option<Request<'_>>
     if cycles == 0 {
         return None;
     }
-    Some(Request::Sim(cycles as u32, read_times(words)?))
+    timed_request(cycles as u32, words)
 }
 
 /// The request of the first word of a command with one file, and of the words after the file.
@@ -150,6 +189,9 @@ fn request_of<'a>(command: &str, words: &'a [String]) -> Option<Request<'a>>
     }
     if command == "synth" {
         return alone(Request::Synth, words);
+    }
+    if command == "simplify" {
+        return alone(Request::Simplify, words);
     }
     if command == "tabulate" {
         return tabulate_request(words);
@@ -183,6 +225,28 @@ fn check_command(words: &[String]) -> Option<Command<'_>>
     } else {
         None
     }
+}
+
+/// Parses the word `N` of the command `big`.
+#[tactic(auto, unfolding(crate::specs::Task::big_command))]
+fn big_command(words: &[String]) -> Option<Command<'_>>
+    ensures command { option_map (λ c. record { files = texts_of c.files.now; task = task c.request }) result
+        ≡ big_command (texts_of words.now) }
+    ensures small { IfSome result (λ c. IsSmall c.request) }
+    ensures each { IfSome result (λ c. length (limits (task c.request)) ≡ length c.files.now) }
+    ensures few { IfSome result (λ c. length c.files.now ≤ 3) }
+{
+    let [number] = words else {
+        return None;
+    };
+    let number = number_word(number.as_str(), 16_384)?;
+    if number == 0 {
+        return None;
+    }
+    Some(Command {
+        files: &words[..0],
+        request: Request::Big(number as u32),
+    })
 }
 
 /// Parses the words after the first one of a command with one file.
@@ -221,6 +285,8 @@ pub fn parse(words: &[String]) -> Option<Command<'_>>
     };
     if command.as_str() == "check" {
         check_command(rest)
+    } else if command.as_str() == "big" {
+        big_command(rest)
     } else {
         of_one_file(command.as_str(), rest)
     }

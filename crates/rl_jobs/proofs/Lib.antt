@@ -5,3 +5,5 @@ pub mod OneText
 pub mod Lowering
 pub mod Agreement
 pub mod Checking
+pub mod OneSimplified
+pub mod SimpleNetwork

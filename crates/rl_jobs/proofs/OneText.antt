@@ -47,7 +47,7 @@ same_head s t ss ts e = cc
 same_tail : (s t : Tree) (ss ts : List Tree) → s ∷ ss ≡ t ∷ ts → ss ≡ ts
 same_tail s t ss ts e = cc
 
-one_places : (nodes : List Node) → AreApart nodes → (rs ss : List Term) → All (λ r. r.0 < length nodes) rs → All (λ r. r.0 < length nodes) ss →
+pub one_places : (nodes : List Node) → AreApart nodes → (rs ss : List Term) → All (λ r. r.0 < length nodes) rs → All (λ r. r.0 < length nodes) ss →
     trees_at nodes rs ≡ trees_at nodes ss → rs ≡ ss
 one_places nodes apart [] [] x y same = refl
 one_places nodes apart [] (s ∷ ss) x y same = absurd (cc)

@@ -5,3 +5,4 @@ pub mod Windows
 pub mod Compiled
 pub mod Readings
 pub mod Checked
+pub mod Simplification

@@ -88,8 +88,8 @@ impl Source {
         lower(alloc, &store, &roots, self.inputs(), &outputs)
     }
 
-    /// The module of its gates.
-    fn module(&self, alloc: Global) -> Result<Module, LowerError>
+    /// The module of its gates. `TooManyBits` holds how many register bits a network needs, if that is over 65,536.
+    pub fn module(&self, alloc: Global) -> Result<Module, LowerError>
         requires sound { IsSound self.now }
         ensures is { IfOk result (IsCompiled self.now) }
         ensures right { IfOk result (RealisesSource self.now) }

@@ -7,6 +7,7 @@ ghost use Rattle.refutation.specs.Spelling.{SpellsTrees};
 ghost use Rattle.rl_jobs.specs.Checked.{ThreeTexts, AreNoTrees, SpellClaim, Agree, AreNotChecked, IsAcceptedText, IsRefusedText};
 ghost use Rattle.rl_jobs.specs.Compiled.{HasFewBits, IsModuleText, IsNotCompiled};
 ghost use Rattle.rl_jobs.specs.Readings.{IsReading};
+ghost use Rattle.rl_jobs.specs.Simplification.{IsSimplifiedText, IsNotSimplified};
 ghost use Rattle.rl_jobs.specs.Sources.{IsNoNetwork, SpellsSoundTable, IsNoTable, SpellsSource, IsNoSource, inputs_of};
 ghost use Rattle.rl_jobs.specs.Synthesised.{IsSynthesisText, IsNotSynthesised};
 ghost use Rattle.rl_jobs.specs.Values.{IsValueText, IsNotValued};
@@ -86,6 +87,14 @@ pub fn one_synthesis_text()
     no_two_places_alike();
 }
 
+/// Bytes have at most one text of a simplified network.
+pub fn one_simplified_text()
+    ensures { (bytes a b : List ℕ) → IsSimplifiedText bytes a → IsSimplifiedText bytes b → a ≡ b }
+{
+    reading_networks();
+    no_two_places_alike();
+}
+
 /// For a name and a window, bytes have at most one text of a table.
 pub fn one_window_text()
     ensures { (name : List ℕ) (window : ℕ) (bytes a b : List ℕ) →
@@ -113,6 +122,13 @@ pub fn synthesising()
     ensures { IsReading SpellsSoundTable IsNotSynthesised }
 {
     reading_tables();
+}
+
+/// What `simplify` can be done with, and why not.
+pub fn simplifying()
+    ensures { IsReading SpellsNetwork IsNotSimplified }
+{
+    reading_networks();
 }
 
 /// What `tabulate` can be done with for this name and window, and why not.

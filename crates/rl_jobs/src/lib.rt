@@ -12,6 +12,7 @@ mod fault;
 pub mod laws;
 mod names;
 mod reading;
+pub mod simplification;
 mod source;
 pub mod synth;
 pub mod tabulate;

@@ -7,6 +7,7 @@ returns c =
       compiling = c.compiling.ensures;
       evaluating = c.evaluating.ensures;
       synthesising = c.synthesising.ensures;
+      simplifying = c.simplifying.ensures;
       tabulating = c.tabulating.ensures;
       simulating = c.simulating.ensures;
       checking = c.checking.ensures;

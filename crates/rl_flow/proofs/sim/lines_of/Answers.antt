@@ -2,7 +2,7 @@ use Rattle.std.proofs.Common.{◌≡◌, ◌∙◌, ap, sym, length}
 use Rattle.std.specs.List.{range_with_len}
 use Rattle.std.proofs.lemmas.List.{length-map}
 use Rattle.std.proofs.lemmas.List.FromFn.{length-range_with_len}
-use Rattle.cycle_sim.specs.Digits.{output_digits}
+use Rattle.levels.specs.Digits.{output_digits}
 use Rattle.rl_flow.proofs.sim.lines_of.Goals as goal
 
 pub level_lines-requires : goal.level_lines-requires

@@ -1,7 +1,6 @@
 ghost use Rattle.std.specs.Prelude.{◌≤◌, length};
 
-use super::error::NetError;
-use super::network::read_network;
+use net_lang::{NetError, read_network};
 use net_model::print_network;
 use std::alloc::Global;
 use std::process::Abort;
