@@ -5,6 +5,7 @@ ghost use Rattle.circuit.specs.Circuit as circuit;
 ghost use Rattle.circuit.specs.Circuit.{Not, And, Or};
 ghost use Rattle.circuit.specs.View.{logic};
 
+use crate::parts::names;
 use circuit::validity_laws::test_shows_validity;
 use circuit::{Assign, Bit, Module, Reg, Target};
 use cycle_sim::{Sim, laws, simulate};
@@ -13,16 +14,6 @@ use rl_time::{NoMemory, Time};
 use std::alloc::Global;
 use std::process::Abort;
 use std::test::Fail;
-
-fn names(alloc: Global, texts: &[&str]) -> Result<Vec<Name>, NoMemory>
-    ensures { IfOk result (λ names. names.items ≡ map (λ text. text.now) texts.now) }
-{
-    let mut names = Vec::new(alloc);
-    for text in texts {
-        names.push(Name::new(alloc, text.as_bytes())?)?;
-    }
-    Ok(names)
-}
 
 fn not(alloc: Global, x: Bit) -> Result<Bit, NoMemory>
     ensures { IfOk result (λ bit. logic bit ≡ Not (logic x)) }

@@ -1,7 +1,8 @@
-ghost use Rattle.std.specs.Prelude.{◌≡◌, IfOk, map};
+ghost use Rattle.std.specs.Prelude.{◌≡◌, IfOk};
 ghost use Rattle.circuit.specs.Circuit.{Or};
 ghost use Rattle.circuit.specs.View.{logic};
 
+use crate::parts::names;
 use circuit::validity_laws::test_shows_validity;
 use circuit::{Assign, Bit, Module, Reg, Target};
 use event_sim::{Events, laws, simulate};
@@ -10,16 +11,6 @@ use rl_time::{NoMemory, Time};
 use std::alloc::Global;
 use std::process::Abort;
 use std::test::Fail;
-
-fn names(alloc: Global, texts: &[&str]) -> Result<Vec<Name>, NoMemory>
-    ensures { IfOk result (λ names. names.items ≡ map (λ text. text.now) texts.now) }
-{
-    let mut names = Vec::new(alloc);
-    for text in texts {
-        names.push(Name::new(alloc, text.as_bytes())?)?;
-    }
-    Ok(names)
-}
 
 fn or(alloc: Global, x: Bit, y: Bit) -> Result<Bit, NoMemory>
     ensures { IfOk result (λ bit. logic bit ≡ Or (logic x) (logic y)) }

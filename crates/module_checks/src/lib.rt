@@ -6,6 +6,8 @@ mod cycles;
 #[cfg(test)]
 mod events;
 #[cfg(test)]
+mod parts;
+#[cfg(test)]
 mod printing;
 #[cfg(test)]
 mod reading;

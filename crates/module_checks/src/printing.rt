@@ -1,23 +1,14 @@
-ghost use Rattle.std.specs.Prelude.{◌≡◌, IfOk, map};
+ghost use Rattle.std.specs.Prelude.{◌≡◌, IfOk};
 ghost use Rattle.circuit.specs.Circuit.{Not, And, Or};
 ghost use Rattle.circuit.specs.View.{logic};
 
+use crate::parts::names;
 use rl_text::Name;
 use rl_time::NoMemory;
 use std::alloc::Global;
 use std::test::Fail;
 use verilog_text::validity_laws::test_shows_validity;
 use verilog_text::{Assign, Bit, Module, Reg, Target, print_module};
-
-fn names(alloc: Global, texts: &[&str]) -> Result<Vec<Name>, NoMemory>
-    ensures { IfOk result (λ names. names.items ≡ map (λ text. text.now) texts.now) }
-{
-    let mut names = Vec::new(alloc);
-    for text in texts {
-        names.push(Name::new(alloc, text.as_bytes())?)?;
-    }
-    Ok(names)
-}
 
 fn not(alloc: Global, x: Bit) -> Result<Bit, NoMemory>
     ensures { IfOk result (λ bit. logic bit ≡ Not (logic x)) }
