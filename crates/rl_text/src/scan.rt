@@ -5,15 +5,34 @@ ghost use Rattle.rl_text.specs.Tokens.{IsBad};
 ghost use Rattle.rl_text.specs.Cursor.{HasTokens};
 ghost use Rattle.rl_text.specs.Scan.{is_plain, next_place};
 
-use crate::bytes::{is_blank, is_name_byte};
 use crate::place::Place;
-use crate::race::is_sign;
+
+// 1 at each byte that is good wherever it is outside of comments, and begins no comment, dash or arrow
+#[rattlefmt::skip]
+static PLAIN: [u8; 256] = [
+    0, 0, 0, 0, 0, 0, 0, 0, 0, 1, 1, 0, 0, 1, 0, 0,
+    0, 0, 0, 0, 0, 0, 0, 0, 0, 0, 0, 0, 0, 0, 0, 0,
+    1, 0, 0, 0, 0, 0, 0, 0, 1, 1, 0, 0, 1, 0, 0, 0,
+    1, 1, 1, 1, 1, 1, 1, 1, 1, 1, 1, 0, 0, 1, 0, 0,
+    0, 1, 1, 1, 1, 1, 1, 1, 1, 1, 1, 1, 1, 1, 1, 1,
+    1, 1, 1, 1, 1, 1, 1, 1, 1, 1, 1, 0, 0, 0, 0, 1,
+    0, 1, 1, 1, 1, 1, 1, 1, 1, 1, 1, 1, 1, 1, 1, 1,
+    1, 1, 1, 1, 1, 1, 1, 1, 1, 1, 1, 0, 0, 0, 0, 0,
+    0, 0, 0, 0, 0, 0, 0, 0, 0, 0, 0, 0, 0, 0, 0, 0,
+    0, 0, 0, 0, 0, 0, 0, 0, 0, 0, 0, 0, 0, 0, 0, 0,
+    0, 0, 0, 0, 0, 0, 0, 0, 0, 0, 0, 0, 0, 0, 0, 0,
+    0, 0, 0, 0, 0, 0, 0, 0, 0, 0, 0, 0, 0, 0, 0, 0,
+    0, 0, 0, 0, 0, 0, 0, 0, 0, 0, 0, 0, 0, 0, 0, 0,
+    0, 0, 0, 0, 0, 0, 0, 0, 0, 0, 0, 0, 0, 0, 0, 0,
+    0, 0, 0, 0, 0, 0, 0, 0, 0, 0, 0, 0, 0, 0, 0, 0,
+    0, 0, 0, 0, 0, 0, 0, 0, 0, 0, 0, 0, 0, 0, 0, 0,
+];
 
 /// Whether a byte outside of comments is good wherever it is, and begins no comment, dash or arrow.
 fn is_plain(byte: u8) -> bool
     ensures { result ≡ is_plain byte }
 {
-    is_name_byte(byte) || is_blank(byte) || byte == b'\n' || is_sign(byte)
+    PLAIN[usize::from(byte)] == 1
 }
 
 /// Where a text is after a byte more. `None` where the byte is bad.

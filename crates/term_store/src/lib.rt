@@ -11,13 +11,14 @@ mod node;
 mod place_laws;
 mod putting;
 mod reach;
+mod region;
 mod store;
 
 pub use laws::{
     network_names_are_ports, network_terms_are_few, no_two_places_alike, reached_places,
     short_delays_need_few_bits, terms_have_the_networks_values,
 };
-pub use node::{Node, StoreError, Term};
+pub use node::{Mark, Node, StoreError, Term};
 pub use place_laws::{
     places_count_subterms, planted_terms_stay, reached_places_are_closed, terms_follow_nodes,
     terms_of_places_stay,

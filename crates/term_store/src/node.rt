@@ -5,6 +5,10 @@ use std::fmt;
 #[derive(Clone, Copy, Debug, PartialEq, Eq, Hash)]
 pub struct Term(pub u32);
 
+/// A length that a store had.
+#[derive(Clone, Copy, Debug, PartialEq, Eq)]
+pub struct Mark(pub u32);
+
 /// One operator over places of the store. `Input` holds the place of a network's input, from 0;
 /// `Inc` holds a number of cycles, 1 to 1,000,000.
 #[derive(Clone, Copy, Debug, PartialEq, Eq, Hash)]

@@ -1,5 +1,5 @@
 //! The store.
-ghost use Rattle.std.specs.Prelude.{◌≡◌, ◌+◌, ◌<◌, ◌≤◌, ◌++◌, ◌∷◌, ◌↔◌, [], length, true, false, Err, IfOk, IfErr, OnOk, OnErr, IsOk, MatchOption};
+ghost use Rattle.std.specs.Prelude.{◌≡◌, ◌+◌, ◌<◌, ◌≤◌, ◌++◌, ◌∷◌, ◌↔◌, [], length, true, false, Err, IfOk, IfErr, OnOk, OnErr, IsOk, MatchOption, take};
 ghost use Rattle.term_store.specs.Nodes.{holds, node_at, place_of, with_node, IsNodeOver, IsNodes, IsFound, IsRefusal};
 ghost use Rattle.term_store.specs.Planting.{cost};
 ghost use Rattle.indexmap.specs.IndexSet.{spare};
@@ -109,6 +109,13 @@ impl Store {
             None if self.nodes.len() == MOST_NODES => Err(StoreError::Full),
             None => Ok(put_last(&mut self.nodes, node)?),
         }
+    }
+
+    /// Keeps the first nodes and takes the others away.
+    pub(crate) fn keep_first(&mut self, len: usize)
+        ensures nodes { self.new.nodes ≡ take len self.old.nodes }
+    {
+        self.nodes.truncate(len);
     }
 
     /// The place of a node, where it is held or there is room for it.
