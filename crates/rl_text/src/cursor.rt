@@ -1,5 +1,5 @@
 //! The lines of a text, one after the other.
-ghost use Rattle.std.specs.Prelude.{◌≡◌, ◌≤◌, ◌<◌, ◌^◌, ◌+◌, ℕ, option_map, List, length, MatchOption, IfOk};
+ghost use Rattle.std.specs.Prelude.{◌≡◌, ◌≤◌, ◌<◌, ◌^◌, ◌+◌, ℕ, option_map, List, [], ◌∷◌, true, false, length, MatchOption, IfOk};
 ghost use Rattle.rl_text.specs.declared.token.Token.{Token};
 ghost use Rattle.rl_text.specs.declared.token.Style.TheVariants as style;
 ghost use Rattle.rl_text.specs.Tokens.{AreTokens, IsBad};
@@ -8,7 +8,7 @@ ghost use Rattle.rl_text.specs.Lines as spec_lines;
 ghost use Rattle.rl_text.specs.Words.{word, words};
 ghost use Rattle.rl_text.specs.Cursor.{HasTokens, lines_left, words_left, line_first, GivesWord, GivesLine};
 
-use crate::bytes::comment_bytes;
+use crate::bytes::{comment_bytes, is_name_start};
 use crate::cut::ends_line;
 use crate::front::front;
 use crate::token::Style;
@@ -54,8 +54,7 @@ impl<'a> Lines<'a> {
         let mut number = self.line;
         while !rest.is_empty() {
             let after = after_line(rest);
-            let mut words = LineWords { rest };
-            if words.next().is_some() {
+            if has_word(rest) {
                 self.rest = after;
                 self.line = number + 1;
                 return Some((number, LineWords { rest }));
@@ -115,6 +114,18 @@ impl<'a> LineWords<'a> {
             all.push(word)?;
         }
         Ok(all)
+    }
+}
+
+/// Whether the line that a text begins with has a word.
+fn has_word(text: &[u8]) -> bool
+    requires few { length text.now < 2 ^ 32 }
+    ensures some { result ≡ true → (first : spec_lines.Word) × (others : List spec_lines.Word) × (words_left text.now ≡ first ∷ others) }
+    ensures none { result ≡ false → words_left text.now ≡ [] }
+{
+    match text {
+        [b, ..] if is_name_start(*b) => true,
+        _ => LineWords { rest: text }.next().is_some(),
     }
 }
 
