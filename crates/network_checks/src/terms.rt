@@ -28,6 +28,26 @@ fn a_held_node_has_its_place(rt: HostRuntime) -> Result<(), Fail> {
 }
 
 #[test]
+fn a_released_store_has_its_places_again(rt: HostRuntime) -> Result<(), Fail> {
+    let mut store = Store::new(rt.alloc())?;
+    let a = store.intern(Node::Input(0))?;
+    let b = store.intern(Node::Input(1))?;
+    assert!(rt; a.0 < store.len());
+    store.intern(Node::Min(a, b))?;
+    let mark = store.mark();
+    assert!(rt; a.0 < store.len());
+    assert!(rt; b.0 < store.len());
+    assert_eq!(rt; store.intern(Node::Lt(a, b)), Ok(Term(3)));
+    assert!(rt; mark.0 <= store.len());
+    store.release(mark);
+    assert_eq!(rt; store.len(), 3);
+    assert!(rt; a.0 < store.len());
+    assert!(rt; b.0 < store.len());
+    assert_eq!(rt; store.intern(Node::Max(a, b)), Ok(Term(3)));
+    Ok(())
+}
+
+#[test]
 fn a_full_store_answers_for_what_it_holds(rt: HostRuntime) -> Result<(), Fail> {
     let mut store = Store::new(rt.alloc())?;
     let a = store.intern(Node::Input(0))?;
