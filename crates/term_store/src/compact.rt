@@ -13,6 +13,22 @@ use rl_time::NoMemory;
 use std::alloc::Global;
 
 impl Store {
+    /// A store of what the roots reach alone, in the order that it has here, and the place of each
+    /// root there. The roots are places of this store.
+    pub fn part(&self, alloc: Global, roots: &[Term]) -> Result<(Store, Vec<Term>), NoMemory>
+        requires roots { All (λ t. t.0 < length self.now.nodes) roots.now }
+        ensures nodes { IfOk result (λ part. trees part.0.nodes ≡ reached_trees self.now.nodes roots.now) }
+        ensures terms { IfOk result (λ part. trees_at part.0.nodes part.1.items ≡ trees_at self.now.nodes roots.now) }
+        ensures within { IfOk result (λ part. All (λ t. t.0 < length part.0.nodes) part.1.items) }
+        ensures fewer { IfOk result (λ part. length part.0.nodes ≤ length self.now.nodes) }
+    {
+        self.rules();
+        let marks = reached(alloc, self, roots)?;
+        let (kept, moved) = keep_marked(alloc, self, &marks)?;
+        let places = move_roots(alloc, &moved, roots)?;
+        Ok((kept, places))
+    }
+
     /// Takes away the places that no root reaches. The others stay in their order, and the new place
     /// of each root is answered. The roots are places of the store. If memory ran out, nothing changes.
     pub fn compact(&mut self, alloc: Global, roots: &[Term]) -> Result<Vec<Term>, NoMemory>
@@ -23,11 +39,8 @@ impl Store {
         ensures fewer { length self.new.nodes ≤ length self.old.nodes }
         ensures unchanged { OnErr result (self.new.nodes ≡ self.old.nodes) }
     {
-        self.rules();
-        let marks = reached(alloc, self, roots)?;
-        let (kept, moved) = keep_marked(alloc, self, &marks)?;
-        let places = move_roots(alloc, &moved, roots)?;
-        *self = kept;
+        let (part, places) = self.part(alloc, roots)?;
+        *self = part;
         Ok(places)
     }
 }

@@ -3,7 +3,7 @@ use Rattle.std.specs.List.{slice_index_or}
 use Rattle.term_store.specs.Reach.{IsReached}
 use Rattle.term_store.specs.Compacted.{AreMoved}
 use Rattle.term_store.proofs.Moved.{reached_have_operands, all_moved, roots_same, roots_within}
-use Rattle.term_store.proofs.store.Store.compact.Goals as goal
+use Rattle.term_store.proofs.store.Store.part.Goals as goal
 
 pub keep_marked-requires-clause-operands : goal.keep_marked-requires-clause-operands
 keep_marked-requires-clause-operands c =
