@@ -1,18 +1,17 @@
 -- One pass over the assigns.
-use Rattle.std.proofs.Common.{◌≡◌, ℕ, zero, suc, ◌+◌, Bool, length, refl, ap, ◌∙◌, sym, subst, inl, arith, add-zero, add-one, Some}
+use Rattle.std.proofs.Common.{◌≡◌, ℕ, zero, suc, ◌+◌, ◌<◌, Bool, List, length, refl, ap, ◌∙◌, sym, subst, arith, add-zero, add-one, Some}
 use Rattle.std.specs.Prelude.{slice_get}
 use Rattle.std.proofs.lemmas.List.{length-set}
+use Rattle.std.proofs.lemmas.Option.{slice_get_within}
 use Rattle.circuit.specs.declared.bit.Target.{Target}
 use Rattle.circuit.specs.declared.bit.Target.TheVariants as target
 use Rattle.circuit.specs.Circuit.{Assignment, Circuit}
 use Rattle.circuit.specs.Valid.{IsTarget}
-use Rattle.circuit.specs.Meaning.{State, level, put, activate, activate_one, activate_all, HasLevels, InOrder, upto, SettlesInOrder, IsSettled}
+use Rattle.circuit.specs.Meaning.{State, level, put, activate, activate_one, activate_all, HasLevels, upto, SettlesInOrder, IsSettled}
 use Rattle.levels.specs.Levels.{HasPlace}
-
--- the numbers from j on occur in themselves in order
-pub in_order_alone : (j n : ℕ) → InOrder (upto j n) (upto j n)
-in_order_alone j zero = tt
-in_order_alone j (suc n) = inl (refl, in_order_alone (suc j) n)
+use Rattle.levels.specs.Marked.{IsUnmarked}
+use Rattle.marked_steps.specs.UpToDate.{IsUpToDate}
+use Rattle.marked_steps.proofs.Filling.{in_order_alone}
 
 one_more_from : (m : Circuit) (s : State) (j n : ℕ) → activate_all m s (upto j (suc n)) ≡ activate m (activate_all m s (upto j n)) (j + n)
 one_more_from m s j zero = ap (λ z. activate m s z) (sym (add-zero j))
@@ -61,3 +60,11 @@ pub passed_settled : (m : Circuit) (old s : State) (k : ℕ) → SettlesInOrder 
 passed_settled m old s k settles h p e =
     let all : s ≡ activate_all m old (upto 0 (length m.assigns)) = p.state ∙ ap (λ n. activate_all m old (upto 0 n)) e in
     subst (λ z. IsSettled m z) (sym all) (settles old (upto 0 (length m.assigns)) h (in_order_alone 0 (length m.assigns)))
+
+-- no assign is marked: the state is settled
+pub settled_all : (m : Circuit) (s : State) (words : List ℕ) → HasLevels m s → IsUpToDate m s words → ((k : ℕ) → k < length m.assigns → IsUnmarked words k) → IsSettled m s
+settled_all m s words f up none = record {
+  wires = f.wires;
+  outs = f.outs;
+  each = λ k a there. up.assigns k a there (none k (slice_get_within m.assigns k a there));
+}

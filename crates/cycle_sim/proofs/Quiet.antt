@@ -6,8 +6,8 @@ use Rattle.circuit.specs.Meaning.{State, level, IsSettled, IsNext, Follows}
 use Rattle.levels.specs.Levels.{HasAllLevels}
 use Rattle.cycle_sim.specs.Standing.{Standing, IsStep}
 use Rattle.levels.specs.Marked.{IsUnmarked}
-use Rattle.cycle_sim.specs.UpToDate.{IsUpToDate}
-use Rattle.cycle_sim.proofs.Shifting.{rows_by, count_rows, take_same}
+use Rattle.marked_steps.specs.UpToDate.{IsUpToDate}
+use Rattle.marked_steps.proofs.Shifting.{rows_by, count_rows, take_same}
 
 -- no register is marked: the state comes after itself
 pub quiet_next : (m : Circuit) (s : State) (words : List ℕ) → HasAllLevels m s → IsUpToDate m s words → IsSettled m s →

@@ -5,7 +5,7 @@ use Rattle.circuit.specs.Meaning.{State, IsSettled, row_at_start}
 use Rattle.levels.specs.Levels.{HasAllLevels}
 use Rattle.levels.specs.Marked.{IsUnmarked}
 use Rattle.levels.specs.Operands.{AreReaders, HasTaps}
-use Rattle.cycle_sim.specs.UpToDate.{IsUpToDate}
+use Rattle.marked_steps.specs.UpToDate.{IsUpToDate}
 
 -- Every level has its place, the lists have all readers, there is room for marks and next levels, no register moves, and
 -- what isn't marked is up to date. Before the first step the registers are as in cycle 0; after it all is settled.

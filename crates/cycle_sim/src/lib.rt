@@ -3,8 +3,6 @@
 //! `NoMemory` is answered if memory ran out.
 #![tactic(auto)]
 
-mod edge;
-mod inputs;
 pub mod laws;
 mod pass;
 mod running;

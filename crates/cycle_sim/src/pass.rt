@@ -1,10 +1,9 @@
 ghost use Rattle.std.specs.Prelude.{◌≡◌, ◌≤◌, ◌+◌, ◌*◌, length};
-ghost use Rattle.circuit.specs.Meaning.{HasLevels, IsSettled, rows_after};
-ghost use Rattle.levels.specs.Levels.{HasAllLevels};
-ghost use Rattle.cycle_sim.specs.UpToDate.{IsUpToDate};
+ghost use Rattle.circuit.specs.Meaning.{HasLevels, IsSettled};
+ghost use Rattle.marked_steps.specs.UpToDate.{IsUpToDate};
 
 use circuit::{Module, laws};
-use levels::{Levels, Marks, clock_edge};
+use levels::{Levels, Marks};
 
 /// Gives each wire and output its expression's level, in one pass over all assigns.
 fn settle_all(m: &Module, levels: &mut Levels)
@@ -33,23 +32,4 @@ pub fn settle_plainly(m: &Module, levels: &mut Levels, marks: &mut Marks)
 {
     settle_all(m, levels);
     marks.fill_from(m.assigns().len());
-}
-
-/// A clock edge on all registers, after which all is marked; `firsts` is room for a level of each. Answers how many registers
-/// change.
-pub fn edge_plainly(
-    m: &Module,
-    levels: &mut Levels,
-    marks: &mut Marks,
-    firsts: &mut [bool],
-) -> usize
-    requires levels { HasAllLevels m.now levels.old }
-    requires room { length m.now.assigns + length m.now.regs ≤ 64 * length marks.old }
-    requires firsts { length firsts.old ≡ length m.now.regs }
-    ensures state { levels.new ≡ record levels.old { regs = rows_after levels.old m.now.regs levels.old.regs } }
-    ensures up_to_date { IsUpToDate m.now levels.new marks.new }
-    ensures room { length marks.new ≡ length marks.old }
-{
-    marks.fill_from(0);
-    clock_edge(m, levels, firsts)
 }

@@ -1,64 +1,13 @@
-ghost use Rattle.std.specs.Prelude.{◌≡◌, ◌≢◌, ◌⊎◌, ◌≤◌, ◌<◌, ◌+◌, ◌*◌, ℕ, length};
-ghost use Rattle.circuit.specs.declared.bit.Target.{Target};
-ghost use Rattle.circuit.specs.Meaning as spec;
+ghost use Rattle.std.specs.Prelude.{◌≡◌, ◌≤◌, ◌+◌, ◌*◌, length};
 ghost use Rattle.circuit.specs.Meaning.{HasLevels, IsSettled};
-ghost use Rattle.levels.specs.Marked.{mark_at, IsUnmarked, HasMore, HasAllAbove, NoneFrom, NoMoreUpTo};
-ghost use Rattle.levels.specs.Operands.{AreReaders, list_at, wire_place};
-ghost use Rattle.cycle_sim.specs.UpToDate.{IsUpToDate, IsSeen};
+ghost use Rattle.levels.specs.Marked.{NoneFrom};
+ghost use Rattle.levels.specs.Operands.{AreReaders};
+ghost use Rattle.marked_steps.specs.UpToDate.{IsUpToDate};
 
 use crate::pass::settle_plainly;
-use circuit::{Module, Target};
+use circuit::Module;
 use levels::{Levels, Marks, Readers};
-
-// Marks the items above assign k that name its target, if the target's level changes.
-fn mark_change(
-    m: &Module,
-    readers: &Readers,
-    marks: &mut Marks,
-    target: Target,
-    k: usize,
-    before: bool,
-    level: bool,
-)
-    ensures more { HasMore marks.old marks.new }
-    ensures below { NoMoreUpTo marks.old marks.new k }
-    ensures seen { (w : ℕ) → target ≡ Target.Wire w →
-        (before ≡ level) ⊎ HasAllAbove marks.new k (list_at readers.now.lists (wire_place m.now w)) }
-{
-    m.rules();
-    if before == level {
-        return;
-    }
-    match target {
-        Target::Wire(w) => readers.mark_above(m.inputs().len() + w as usize, k, marks),
-        Target::Out(_) => {}
-    }
-}
-
-// Gives assign k's target its expression's level.
-fn activate(m: &Module, readers: &Readers, levels: &mut Levels, marks: &mut Marks, k: usize)
-    requires an_assign { k < length m.now.assigns }
-    requires levels { HasLevels m.now levels.old }
-    requires readers { AreReaders m.now readers.now.starts.items readers.now.lists }
-    requires room { length m.now.assigns + length m.now.regs ≤ 64 * length marks.old }
-    requires up_to_date { IsUpToDate m.now levels.old marks.old }
-    ensures up_to_date { IsUpToDate m.now levels.new marks.new }
-    ensures levels { HasLevels m.now levels.new }
-    ensures inputs { levels.new.inputs ≡ levels.old.inputs }
-    ensures regs { levels.new.regs ≡ levels.old.regs }
-    ensures room { length marks.new ≡ length marks.old }
-    ensures cleared { IsUnmarked marks.new k }
-    ensures below { (i : ℕ) → i < k → IsUnmarked marks.old i → IsUnmarked marks.new i }
-{
-    m.rules();
-    let assign = &m.assigns()[k];
-    let target = assign.target();
-    let level = levels.level(assign.bit());
-    let before = levels.at(target);
-    marks.clear(k);
-    levels.put(target, level);
-    mark_change(m, readers, marks, target, k, before, level);
-}
+use marked_steps::{activate, most_marked};
 
 // Gives the targets of so many marked assigns their expressions' levels, in order. Answers the first assign that is
 // still marked, or a number past the assigns.
@@ -105,11 +54,7 @@ pub fn settle(m: &Module, readers: &Readers, levels: &mut Levels, marks: &mut Ma
     ensures room { length marks.new ≡ length marks.old }
 {
     let count = m.assigns().len();
-    let most = if marks.count_to(count) > count / 4 {
-        0
-    } else {
-        count / 8 + 1
-    };
+    let most = most_marked(m, marks);
     let next = settle_marked(m, readers, levels, marks, most);
     if next < count {
         settle_plainly(m, levels, marks);

@@ -3,12 +3,11 @@ ghost use Rattle.circuit.specs.Meaning.{State, IsNext};
 ghost use Rattle.cycle_sim.specs.Standing.{IsStep, output_level};
 ghost use Rattle.levels.specs.Marked.{IsUnmarked};
 
-use crate::edge::clock_edge;
-use crate::inputs::set_inputs;
 use crate::settle::settle;
 use circuit::Module;
 use levels::laws::few_items;
 use levels::{Levels, Marks, Readers, all_low, readers_of};
+use marked_steps::{clock_edge, is_busy, set_inputs};
 use rl_time::NoMemory;
 use std::alloc::Global;
 use std::marker::Model;
@@ -90,7 +89,7 @@ impl<'a> Sim<'a> {
     {
         let m = self.module;
         if self.started {
-            self.busy = clock_edge(
+            let changed = clock_edge(
                 m,
                 &self.readers,
                 &mut self.levels,
@@ -99,6 +98,7 @@ impl<'a> Sim<'a> {
                 self.firsts.as_mut_slice(),
                 self.busy,
             );
+            self.busy = is_busy(m, changed);
         }
         set_inputs(m, &self.readers, &mut self.levels, &mut self.marks, inputs);
         settle(m, &self.readers, &mut self.levels, &mut self.marks);

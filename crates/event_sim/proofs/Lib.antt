@@ -3,3 +3,4 @@ pub mod Numbering
 pub mod Agreeing
 pub mod Edging
 pub mod Cycles
+pub mod Skipping

@@ -6,11 +6,11 @@ use Rattle.circuit.specs.Meaning.{upto}
 use Rattle.event_sim.specs.Orders.{begins, from_on, numbered_order}
 use Rattle.event_sim.specs.Passes.{IsRound}
 
-upto_long : (j n : ℕ) → length (upto j n) ≡ n
+pub upto_long : (j n : ℕ) → length (upto j n) ≡ n
 upto_long j zero = refl
 upto_long j (suc n) = ap suc (upto_long (suc j) n)
 
-upto_at : (j n i d : ℕ) → i < n → get_or (upto j n) i d ≡ j + i
+pub upto_at : (j n i d : ℕ) → i < n → get_or (upto j n) i d ≡ j + i
 upto_at j zero i d lt = absurd (omega arith)
 upto_at j (suc n) zero d lt = omega arith
 upto_at j (suc n) (suc i) d lt = let e = upto_at (suc j) n i d (omega arith) in omega (arith, e)
@@ -42,27 +42,6 @@ back_at count place d lt =
     let long = upto_long 0 count in
     get_or-reverse (upto 0 count) place d (omega (arith, long, lt))
     ∙ (ap (λ n. get_or (upto 0 count) (n - 1 - place) d) long ∙ (upto_at 0 count (count - 1 - place) d (omega (arith, lt)) ∙ omega arith))
-
-pub backward_at : (count order place : ℕ) → place < count → order ≡ 1 → get_or (numbered_order count order) place 0 ≡ count - 1 - place
-backward_at count order place lt e = ap (λ n. get_or (numbered_order count n) place 0) e ∙ back_at count place 0 lt
-
-pub forward_low : (count order begin place : ℕ) → order ≢ 1 → begin ≡ begins count order → place < count - begin →
-    get_or (numbered_order count order) place 0 ≡ begin + place
-forward_low count zero begin place ne is lt = upto_at 0 count place 0 (omega (arith, lt)) ∙ ap (λ n. n + place) (sym is)
-forward_low count (suc zero) begin place ne is lt = absurd (ne refl)
-forward_low count (suc (suc n)) begin place ne is lt =
-    ap (λ b. get_or (from_on count b) place 0) (sym is) ∙ from_low count begin place 0 lt
-
-pub forward_high : (count order begin place : ℕ) → order ≢ 1 → begin ≡ begins count order → count - begin ≤ place → place < count →
-    get_or (numbered_order count order) place 0 ≡ place - (count - begin)
-forward_high count zero begin place ne is le lt = absurd (omega (arith, is, le, lt))
-forward_high count (suc zero) begin place ne is le lt = absurd (ne refl)
-forward_high count (suc (suc n)) begin place ne is le lt =
-    let b = begins_within count (suc (suc n)) (omega (arith, lt)) in
-    let i = place - (count - begin) in
-    let at : count - begin + i ≡ place = omega (arith, le) in
-    ap (λ b. get_or (from_on count b) place 0) (sym is)
-    ∙ (ap (λ k. get_or (from_on count begin) k 0) (sym at) ∙ from_high count begin i 0 (omega (arith, b, is, lt, le)) (omega (arith, b, is)))
 
 -- ---- each assign is in each order
 

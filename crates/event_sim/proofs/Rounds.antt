@@ -12,6 +12,7 @@ use Rattle.circuit.specs.Valid.{IsTarget, IsOrdered, IsValid}
 use Rattle.circuit.specs.Meaning.{State, level, at, put, IsSettled, HasLevels, InOrder, activate, activate_one, activate_all}
 use Rattle.levels.specs.Levels.{HasPlace, HaveWidths, HasAllLevels}
 use Rattle.circuit.proofs.Settling.{Holds, Keeps, holds_all, all_keep, keep_fits}
+use Rattle.marked_steps.proofs.Single.{put_same, at_put_is, in_state}
 use Rattle.event_sim.specs.Passes.{IsRound, activate_rounds, SettlesInRounds, passes, ChangesNothing, ArePasses}
 
 in_order_at : (ks : List ℕ) (j i : ℕ) → i < length ks → get_or ks i j ≡ j → InOrder (j ∷ []) ks
@@ -22,7 +23,7 @@ in_order_at (k ∷ ks) j (suc i) h e = inr (in_order_at ks j i (omega arith) e)
 none_yet : (m : Circuit) (s : State) → Holds m s 0
 none_yet m s = record { by = λ k a lt ka. absurd (omega arith) }
 
-fits_after : (m : Circuit) (s : State) (ks : List ℕ) → HasLevels m s → HasLevels m (activate_all m s ks)
+pub fits_after : (m : Circuit) (s : State) (ks : List ℕ) → HasLevels m s → HasLevels m (activate_all m s ks)
 fits_after m s ks f = keep_fits m s (activate_all m s ks) (all_keep m s ks) f
 
 pub settled_from : (m : Circuit) (s : State) → HasLevels m s → Holds m s (length m.assigns) → IsSettled m s
@@ -45,10 +46,6 @@ rounds_hold m ord (ks ∷ rounds) s j f h e all =
 pub rounds_settle : (m : Circuit) → IsOrdered m → SettlesInRounds m
 rounds_settle m ord s rounds f e all = rounds_hold m ord rounds s 0 f (none_yet m s) (omega arith) all
 
-put_same : (s : State) (t : Target) → put s t (at s t) ≡ s
-put_same s (target.Wire w) = ap (λ z. record s { wires = z }) (set-get_or s.wires w false)
-put_same s (target.Out o) = ap (λ z. record s { outs = z }) (set-get_or s.outs o false)
-
 settled_one : (m : Circuit) (s : State) → IsSettled m s → (k : ℕ) (o : Option Assignment) → slice_get m.assigns k ≡ o → activate_one s o ≡ s
 settled_one m s h k None e = refl
 settled_one m s h k (Some a) e = ap (λ v. put s a.target v) (sym (h.each k a e)) ∙ put_same s a.target
@@ -66,91 +63,6 @@ passes_hold m ord ks (suc n) s j f h r e =
 pub passes_settle : (m : Circuit) → IsOrdered m → (ks : List ℕ) (s : State) → HasLevels m s → IsRound (length m.assigns) ks → ChangesNothing m ks (passes m ks (length m.assigns) s)
 passes_settle m ord ks s f r = settled_quiet m (passes m ks (length m.assigns) s) ks (passes_hold m ord ks (length m.assigns) s 0 f (none_yet m s) r (omega arith))
 
--- a write changes the state exactly where it changes the target's level
-at_put_is : (s : State) (t : Target) (v : Bool) → HasPlace s t → at (put s t v) t ≡ v
-at_put_is s (target.Wire w) v h = get_or-set_same s.wires w v false h
-at_put_is s (target.Out o) v h = get_or-set_same s.outs o v false h
-
-option_same : (s : State) (o : Option Assignment) (a : Assignment) → o ≡ Some a → at s a.target ≡ level s a.bit → activate_one s o ≡ s
-option_same s None a e w = refl
-option_same s (Some b) a e w =
-    let same : a ≡ b = cc in
-    let w' : at s b.target ≡ level s b.bit = subst (λ (z : Assignment). at s z.target ≡ level s z.bit) same w in
-    ap (λ v. put s b.target v) (sym w') ∙ put_same s b.target
-
-option_moved : (s : State) (o : Option Assignment) (a : Assignment) → o ≡ Some a → HasPlace s a.target → (at s a.target ≢ level s a.bit) → activate_one s o ≢ s
-option_moved s None a e h w q = (cc)
-option_moved s (Some b) a e h w q =
-    let same : a ≡ b = cc in
-    let h' : HasPlace s b.target = subst (λ (z : Assignment). HasPlace s z.target) same h in
-    let w' : at s b.target ≢ level s b.bit = subst (λ (z : Assignment). at s z.target ≢ level s z.bit) same w in
-    w' (sym (ap (λ (z : State). at z b.target) q) ∙ at_put_is s b.target (level s b.bit) h')
-
-pub activate_same : (m : Circuit) (s : State) (k : ℕ) (a : Assignment) → slice_get m.assigns k ≡ Some a → at s a.target ≡ level s a.bit → activate m s k ≡ s
-activate_same m s k a e w = option_same s (slice_get m.assigns k) a e w
-
-pub activate_moved : (m : Circuit) (s : State) (k : ℕ) (a : Assignment) → slice_get m.assigns k ≡ Some a → HasPlace s a.target → (at s a.target ≢ level s a.bit) → activate m s k ≢ s
-activate_moved m s k a e h w = option_moved s (slice_get m.assigns k) a e h w
-
-pub in_state : (m : Circuit) (s : State) (t : Target) → HasLevels m s → IsTarget m t → HasPlace s t
-in_state m s (target.Wire w) f h = omega (arith, f.wires)
-in_state m s (target.Out o) f h = omega (arith, f.outs)
-
--- what a pass keeps after i activations
-pub record Passing (m : Circuit) (ks : List ℕ) (old s : State) (i : ℕ) (changed : Bool) : Type 0 where
-  pub state : s ≡ activate_all m old (take i ks)
-  pub fits : HasLevels m s
-  pub same : changed ≡ false → s ≡ old
-  pub quiet : changed ≡ false → (j : ℕ) → j < i → activate m old (get_or ks j 0) ≡ old
-  pub moved : changed ≡ true → ChangesNothing m ks old → ⊥
-
-one_more : (m : Circuit) (s : State) (ks : List ℕ) (i : ℕ) → i < length ks → activate_all m s (take (suc i) ks) ≡ activate m (activate_all m s (take i ks)) (get_or ks i 0)
-one_more m s [] i h = absurd (omega arith)
-one_more m s (k ∷ ks) zero h = refl
-one_more m s (k ∷ ks) (suc i) h = one_more m (activate m s k) ks i (omega arith)
-
-or_false : (p q : Bool) → (p || q) ≡ false → (p ≡ false) × (q ≡ false)
-or_false true q h = absurd (false≢true (sym h))
-or_false false q h = (refl, h)
-
-moved_more : (m : Circuit) (ks : List ℕ) (old s : State) (i : ℕ) (changed r : Bool) → Passing m ks old s i changed → i < length ks →
-    (r ≡ true → activate m s (get_or ks i 0) ≢ s) → (changed || r) ≡ true → ChangesNothing m ks old → ⊥
-moved_more m ks old s i true r p lt moved h q = p.moved refl q
-moved_more m ks old s i false r p lt moved h q =
-    let k = get_or ks i 0 in
-    let here : Contains ks k = Contains-get_or ks i 0 lt in
-    let is : s ≡ old = p.same refl in
-    moved h (ap (λ z. activate m z k) is ∙ (q k here ∙ sym is))
-
-pub passing_none : (m : Circuit) (ks : List ℕ) (s : State) → HasLevels m s → Passing m ks s s 0 false
-passing_none m ks s f = record { state = refl; fits = f; same = λ h. refl; quiet = λ h j lj. absurd (omega arith); moved = λ h. absurd (false≢true h) }
-
-pub passing_quiet : (m : Circuit) (ks : List ℕ) (old s : State) (i : ℕ) → Passing m ks old s i false → length ks ≤ i → ChangesNothing m ks old
-passing_quiet m ks old s i p le k c =
-    let e : get_or ks c.0 0 ≡ k = get_or_default ks c.0 0 k c.1 ∙ c.2 in
-    subst (λ z. activate m old z ≡ old) e (p.quiet refl c.0 (omega (arith, c.1)))
-
-pub passing_more : (m : Circuit) (ks : List ℕ) (old s s' : State) (i : ℕ) (changed r : Bool) → Passing m ks old s i changed → i < length ks →
-    s' ≡ activate m s (get_or ks i 0) → (r ≡ false → activate m s (get_or ks i 0) ≡ s) → (r ≡ true → activate m s (get_or ks i 0) ≢ s) → Passing m ks old s' (i + 1) (changed || r)
-passing_more m ks old s s' i changed r p lt e same moved =
-    let k = get_or ks i 0 in
-    let n : i + 1 ≡ suc i = omega arith in
-    let state' : s' ≡ activate_all m old (take (i + 1) ks) =
-    e ∙ (ap (λ z. activate m z k) p.state ∙ (sym (one_more m old ks i lt) ∙ ap (λ z. activate_all m old (take z ks)) (sym n))) in
-    record {
-      state = state';
-      fits = subst (λ z. HasLevels m z) (sym e) (fits_after m s (k ∷ []) p.fits);
-      same = λ h. let q = or_false changed r h in e ∙ (same q.1 ∙ p.same q.0);
-      quiet = λ h j lj. let q = or_false changed r h in elim (cases_lt j i) [
-        | inl w ↦ p.quiet q.0 j w
-        | inr w ↦
-            let at_i : j ≡ i = omega arith in
-            let still : activate m old k ≡ old = ap (λ z. activate m z k) (sym (p.same q.0)) ∙ (same q.1 ∙ p.same q.0) in
-            subst (λ z. activate m old (get_or ks z 0) ≡ old) (sym at_i) still
-      ];
-      moved = moved_more m ks old s i changed r p lt moved;
-    }
-
 passes_more : (m : Circuit) (ks : List ℕ) (n : ℕ) (s : State) → passes m ks (suc n) s ≡ activate_all m (passes m ks n s) ks
 passes_more m ks zero s = refl
 passes_more m ks (suc n) s = passes_more m ks n (activate_all m s ks)
@@ -159,7 +71,7 @@ quiet_all : (m : Circuit) (s : State) (ks : List ℕ) → ((i : ℕ) → i < len
 quiet_all m s [] q = refl
 quiet_all m s (k ∷ ks) q = ap (λ z. activate_all m z ks) (q 0 (omega arith)) ∙ quiet_all m s ks (λ i h. q (suc i) (omega arith))
 
-quiet_pass : (m : Circuit) (s : State) (ks : List ℕ) → ChangesNothing m ks s → activate_all m s ks ≡ s
+pub quiet_pass : (m : Circuit) (s : State) (ks : List ℕ) → ChangesNothing m ks s → activate_all m s ks ≡ s
 quiet_pass m s ks q = quiet_all m s ks (λ i h. q (get_or ks i 0) (Contains-get_or ks i 0 h))
 
 quiet_option : (s : State) (o : Option Assignment) (a : Assignment) → o ≡ Some a → HasPlace s a.target → activate_one s o ≡ s → at s a.target ≡ level s a.bit

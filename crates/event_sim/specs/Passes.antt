@@ -1,5 +1,5 @@
 -- Rounds and passes of activations.
-use Rattle.std.specs.Prelude.{◌≡◌, ℕ, zero, suc, ◌<◌, ◌≤◌, ◌+◌, ◌*◌, List, [], ◌∷◌, length, Contains, All}
+use Rattle.std.specs.Prelude.{◌≡◌, ℕ, zero, suc, ◌<◌, ◌≤◌, ◌+◌, ◌*◌, Bool, true, false, List, [], ◌∷◌, length, Contains, All}
 use Rattle.circuit.specs.Circuit.{Circuit}
 use Rattle.circuit.specs.Meaning.{State, IsSettled, HasLevels, activate, activate_all}
 
@@ -31,6 +31,12 @@ passes m ks (suc n) s = passes m ks n (activate_all m s ks)
 -- no activation of a pass changes a level
 abbrev pub ChangesNothing : Circuit → List ℕ → State → Type 0
 ChangesNothing m ks s = (k : ℕ) → Contains ks k → activate m s k ≡ s
+
+-- the activations of these assigns go from s to s', and whether one of them changes a level
+pub record IsPass (m : Circuit) (ks : List ℕ) (s s' : State) (changed : Bool) : Type 0 where
+  pub state : s' ≡ activate_all m s ks
+  pub still : changed ≡ false → ChangesNothing m ks s
+  pub moved : changed ≡ true → ChangesNothing m ks s → ⊥
 
 -- after n passes, each of which changes something, comes one that changes nothing
 pub record IsStillAfter (m : Circuit) (ks : List ℕ) (s : State) (n : ℕ) : Type 0 where

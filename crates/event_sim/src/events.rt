@@ -6,21 +6,29 @@ ghost use Rattle.event_sim.specs.Orders.{numbered_order};
 ghost use Rattle.event_sim.specs.Passes.{ArePasses};
 ghost use Rattle.event_sim.specs.Standing.{edge_after};
 
-use crate::passes::{activate, is_settled, run_passes};
+use crate::passes::{is_settled, run_passes};
 use circuit::Module;
-use levels::{Levels, all_low, clock_edge};
+use levels::laws::few_items;
+use levels::{Levels, Marks, Readers, all_low, readers_of};
+use marked_steps::{activate, clock_edge, is_busy, set_inputs};
 use rl_time::NoMemory;
 use std::alloc::Global;
 use std::marker::Model;
 
 /// A simulation of a module by single activations of its assigns, in an order that the caller chooses.
 ///
-/// `started` is whether a clock edge was made. `firsts` is room for what the registers take at a clock edge.
+/// `started` is whether a clock edge was made, and `busy` whether many registers changed at the last one. `marks` are the assigns
+/// and registers that may not be up to date. `moving` and `firsts` are room for the registers that change at a clock edge, and what
+/// they take.
 #[derive(Drop)]
 pub struct Events<'a> {
     module: &'a Module,
     started: bool,
+    busy: bool,
     levels: Levels,
+    readers: Readers,
+    marks: Marks,
+    moving: Marks,
     firsts: Vec<bool>,
 }
 
@@ -34,7 +42,7 @@ impl<'a> Model for Events<'a> {
 
     ghost view = { λ e. record { circuit = e.module.now; started = e.started; state = e.levels } };
 
-    ghost invariant = { λ e. IsReady e.module.now e.started e.levels e.firsts.items };
+    ghost invariant = { λ e. IsReady e.module.now e.started e.levels e.readers.starts.items e.readers.lists e.readers.tapped e.marks e.moving e.firsts.items };
 }
 
 impl<'a> Events<'a> {
@@ -44,11 +52,18 @@ impl<'a> Events<'a> {
         ensures before_cycle_0 { IfOk result (λ e. e.started ≡ false) }
         ensures low { IfOk result (λ e. e.state ≡ all_low m.now) }
     {
+        few_items(m);
+        let assigns = m.assigns().len();
+        let regs = m.regs().len();
         Ok(Events {
             module: m,
             started: false,
+            busy: false,
             levels: Levels::low(alloc, m)?,
-            firsts: all_low(alloc, m.regs().len())?,
+            readers: readers_of(alloc, m)?,
+            marks: Marks::all(alloc, assigns + regs)?,
+            moving: Marks::none(alloc, regs)?,
+            firsts: all_low(alloc, regs)?,
         })
     }
 
@@ -75,17 +90,52 @@ impl<'a> Events<'a> {
         ensures first { self.old.started ≡ false → self.new.state.regs ≡ map row_at_start self.old.circuit.regs }
         ensures still { result ≡ false → (self.old.started ≡ true) × (self.new.state ≡ self.old.state) }
     {
-        let m = self.module;
         let started = self.started;
-        let changes = take_edge(
-            m,
+        let moved = self.move_registers();
+        let same = self.levels.has_inputs(inputs);
+        self.take_inputs(inputs);
+        moved || !same || !started
+    }
+
+    // The registers at a clock edge, the first one or not. Answers whether one changes.
+    fn move_registers(&mut self) -> bool
+        ensures same_module { self.new.circuit ≡ self.old.circuit }
+        ensures started { self.new.started ≡ self.old.started }
+        ensures state { self.new.state ≡ edge_after self.old.circuit self.old.started self.old.state self.old.state.inputs }
+        ensures still { result ≡ false → self.new.state ≡ self.old.state }
+    {
+        if self.started {
+            let changed = clock_edge(
+                self.module,
+                &self.readers,
+                &mut self.levels,
+                &mut self.marks,
+                &mut self.moving,
+                self.firsts.as_mut_slice(),
+                self.busy,
+            );
+            self.busy = is_busy(self.module, changed);
+            changed > 0
+        } else {
+            false
+        }
+    }
+
+    // The inputs at a clock edge.
+    fn take_inputs(&mut self, inputs: &[bool])
+        requires { length inputs.now ≡ length self.old.circuit.inputs }
+        ensures same_module { self.new.circuit ≡ self.old.circuit }
+        ensures started { self.new.started ≡ true }
+        ensures state { self.new.state ≡ record self.old.state { inputs = inputs.now } }
+    {
+        set_inputs(
+            self.module,
+            &self.readers,
             &mut self.levels,
-            self.firsts.as_mut_slice(),
-            started,
+            &mut self.marks,
             inputs,
         );
         self.started = true;
-        changes || !started
     }
 
     /// An activation of assign k: its target takes the level of its expression. Answers whether that changes the target's level.
@@ -97,7 +147,13 @@ impl<'a> Events<'a> {
         ensures same { result ≡ false → self.new.state ≡ self.old.state }
         ensures changed { result ≡ true → self.new.state ≢ self.old.state }
     {
-        activate(self.module, &mut self.levels, k as usize)
+        activate(
+            self.module,
+            &self.readers,
+            &mut self.levels,
+            &mut self.marks,
+            k as usize,
+        )
     }
 
     /// Whether each wire and each output has its expression's level.
@@ -133,36 +189,12 @@ impl<'a> Events<'a> {
         ensures settled { IsSettled self.old.circuit self.new.state }
         ensures few { result ≤ 17196781632 }
     {
-        run_passes(self.module, &mut self.levels, order)
+        run_passes(
+            self.module,
+            &self.readers,
+            &mut self.levels,
+            &mut self.marks,
+            order,
+        )
     }
-}
-
-// The registers at a clock edge, the first one or not. `firsts` is room for what they take. Answers whether one changes.
-fn move_registers(m: &Module, levels: &mut Levels, firsts: &mut [bool], started: bool) -> bool
-    requires levels { HasAllLevels m.now levels.old }
-    requires firsts { length firsts.old ≡ length m.now.regs }
-    ensures state { levels.new ≡ edge_after m.now started levels.old levels.old.inputs }
-    ensures still { result ≡ false → levels.new ≡ levels.old }
-{
-    started && clock_edge(m, levels, firsts) > 0
-}
-
-// A clock edge, the first one or not. `firsts` is room for what the registers take. Answers whether a level may have changed.
-fn take_edge(
-    m: &Module,
-    levels: &mut Levels,
-    firsts: &mut [bool],
-    started: bool,
-    inputs: &[bool],
-) -> bool
-    requires levels { HasAllLevels m.now levels.old }
-    requires firsts { length firsts.old ≡ length m.now.regs }
-    requires one_for_each { length inputs.now ≡ length m.now.inputs }
-    ensures state { levels.new ≡ edge_after m.now started levels.old inputs.now }
-    ensures still { result ≡ false → levels.new ≡ levels.old }
-{
-    let moved = move_registers(m, levels, firsts, started);
-    let same = levels.has_inputs(inputs);
-    levels.set_inputs(inputs);
-    moved || !same
 }

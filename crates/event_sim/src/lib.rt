@@ -9,6 +9,7 @@ pub mod laws;
 mod orders;
 mod passes;
 mod run;
+mod stretches;
 
 pub use events::Events;
 pub use run::{Run, simulate};

@@ -1,55 +1,55 @@
-ghost use Rattle.std.specs.Prelude.{◌≡◌, ◌≢◌, ◌<◌, ◌≤◌, true, false, length};
-ghost use Rattle.circuit.specs.Meaning as spec;
-ghost use Rattle.circuit.specs.Meaning.{HasLevels, IsSettled, activate_all};
+ghost use Rattle.std.specs.Prelude.{◌≡◌, ◌≤◌, ◌+◌, ◌*◌, true, false, length};
+ghost use Rattle.circuit.specs.Meaning.{HasLevels, IsSettled};
+ghost use Rattle.levels.specs.Operands.{AreReaders};
+ghost use Rattle.marked_steps.specs.UpToDate.{IsUpToDate};
 ghost use Rattle.event_sim.specs.Orders.{numbered_order};
-ghost use Rattle.event_sim.specs.Passes.{ArePasses, ChangesNothing};
+ghost use Rattle.event_sim.specs.Passes.{ArePasses, IsPass};
 
-use crate::orders::{assign_at, begins};
+use crate::orders::begins;
+use crate::stretches::{fall, rise};
 use circuit::Module;
-use levels::Levels;
 use levels::laws::few_items;
-
-/// An activation of assign k. Answers whether it changes a level.
-pub fn activate(m: &Module, levels: &mut Levels, k: usize) -> bool
-    requires an_assign { k < length m.now.assigns }
-    requires levels { HasLevels m.now levels.old }
-    ensures state { levels.new ≡ spec.activate m.now levels.old k }
-    ensures same { result ≡ false → levels.new ≡ levels.old }
-    ensures changed { result ≡ true → levels.new ≢ levels.old }
-{
-    m.rules();
-    let assign = &m.assigns()[k];
-    let target = assign.target();
-    let level = levels.level(assign.bit());
-    let before = levels.at(target);
-    levels.put(target, level);
-    before != level
-}
+use levels::{Levels, Marks, Readers};
 
 // A pass in a numbered order. Answers whether an activation changes a level.
-fn pass(m: &Module, levels: &mut Levels, order: u64) -> bool
-    requires { HasLevels m.now levels.old }
-    ensures state { levels.new ≡ activate_all m.now levels.old (numbered_order (length m.now.assigns) order) }
-    ensures still { result ≡ false → ChangesNothing m.now (numbered_order (length m.now.assigns) order) levels.old }
-    ensures changed { result ≡ true → ChangesNothing m.now (numbered_order (length m.now.assigns) order) levels.old → ⊥ }
+fn pass(m: &Module, readers: &Readers, levels: &mut Levels, marks: &mut Marks, order: u64) -> bool
+    requires levels { HasLevels m.now levels.old }
+    requires readers { AreReaders m.now readers.now.starts.items readers.now.lists }
+    requires room { length m.now.assigns + length m.now.regs ≤ 64 * length marks.old }
+    requires up_to_date { IsUpToDate m.now levels.old marks.old }
+    ensures pass { IsPass m.now (numbered_order (length m.now.assigns) order) levels.old levels.new result }
+    ensures up_to_date { IsUpToDate m.now levels.new marks.new }
+    ensures room { length marks.new ≡ length marks.old }
 {
     m.rules();
+    if order == 1 {
+        return fall(m, readers, levels, marks);
+    }
     let count = m.assigns().len();
     let begin = begins(count, order);
-    let mut changed = false;
-    for place in 0..count {
-        let now = activate(m, levels, assign_at(count, order, begin, place));
-        changed = changed || now;
-    }
-    changed
+    let high = rise(m, readers, levels, marks, begin, count);
+    let low = rise(m, readers, levels, marks, 0, begin);
+    high || low
 }
 
-/// Passes in a numbered order until one changes nothing. Answers the number of activations.
-pub fn run_passes(m: &Module, levels: &mut Levels, order: u64) -> u64
-    requires { HasLevels m.now levels.old }
+/// Passes in a numbered order until one changes nothing. Answers the number of activations, also of those that would change nothing
+/// and aren't made.
+pub fn run_passes(
+    m: &Module,
+    readers: &Readers,
+    levels: &mut Levels,
+    marks: &mut Marks,
+    order: u64,
+) -> u64
+    requires levels { HasLevels m.now levels.old }
+    requires readers { AreReaders m.now readers.now.starts.items readers.now.lists }
+    requires room { length m.now.assigns + length m.now.regs ≤ 64 * length marks.old }
+    requires up_to_date { IsUpToDate m.now levels.old marks.old }
     ensures passes { ArePasses m.now (numbered_order (length m.now.assigns) order) levels.old levels.new result }
     ensures settled { IsSettled m.now levels.new }
     ensures few { result ≤ 17196781632 }
+    ensures up_to_date { IsUpToDate m.now levels.new marks.new }
+    ensures room { length marks.new ≡ length marks.old }
 {
     m.rules();
     few_items(m);
@@ -57,11 +57,11 @@ pub fn run_passes(m: &Module, levels: &mut Levels, order: u64) -> u64
     let mut activations = 0;
     for _ in 0..count {
         activations += count as u64;
-        if !pass(m, levels, order) {
+        if !pass(m, readers, levels, marks, order) {
             return activations;
         }
     }
-    pass(m, levels, order);
+    pass(m, readers, levels, marks, order);
     activations + count as u64
 }
 

@@ -1,11 +1,11 @@
 -- One bit of words.
-use Rattle.std.proofs.Common.{◌≡◌, ◌≢◌, ℕ, ◌+◌, ◌*◌, ◌/◌, ◌%◌, ◌^◌, ◌-◌, min, ◌<◌, ◌≤◌, List, length, get_or, set, replicate, refl, ap, ◌∙◌, sym, subst, arith, inl, inr, get_or-set_same, get_or-set_other}
+use Rattle.std.proofs.Common.{◌≡◌, ◌≢◌, ℕ, Bool, true, false, ◌==◌, ◌+◌, ◌*◌, ◌/◌, ◌%◌, ◌^◌, ◌-◌, min, ◌<◌, ◌≤◌, List, length, get_or, set, replicate, refl, ap, ◌∙◌, sym, subst, arith, inl, inr, get_or-set_same, get_or-set_other}
 use Rattle.std.specs.Prelude.{◌⊎◌}
 use Rattle.std.specs.Int.{bit_at, bit_not, trailing_zeros, w64}
 use Rattle.std.specs.Int.RustNames.{bit_or}
 use lib.Bits.{bit_and}
 use Rattle.std.proofs.lemmas.List.{length-set, get_or-replicate, get_or_past, length-replicate}
-use Rattle.std.proofs.lemmas.Bool.{cases_eq, cases_lt}
+use Rattle.std.proofs.lemmas.Bool.{cases_eq, cases_lt, eqb-true, eqb-false}
 use Rattle.std.proofs.lemmas.Nat.{and_le_l}
 use Rattle.std.proofs.lemmas.Nat.Bits.{bit_at_set_same, bit_at_set_other, bit_at_clear_same, bit_at_clear_other, bit_at-zero, bit_at_and, bit_at_mask_below, bit_at_mask_inside, bit_at-lt, bit_at_ones, ones_shl, bit_at-trailing_zeros}
 use Rattle.levels.specs.Marked.{mark_at, IsMarked, IsUnmarked, HasMore, NoneFrom}
@@ -153,3 +153,30 @@ all_marked words count k e lt =
     let n : 18446744073709551615 ≡ 2 ^ 64 - 1 = refl in
     ap (λ z. bit_at (get_or z (k / 64) 0) (k % 64)) e ∙ (ap (λ z. bit_at z (k % 64)) (get_or-replicate (count / 64 + 1) (k / 64) 18446744073709551615 0 w)
     ∙ bit_at_ones 64 (k % 64) (omega arith))
+
+-- ---- whether a number is in the set
+
+pub marked_in : (words : List ℕ) (k word : ℕ) → word ≡ get_or words (k / 64) 0 → (bit_at word (k % 64) == 1) ≡ true → IsMarked words k
+unfolding mark_at
+marked_in words k word e h = ap (λ z. bit_at z (k % 64)) (sym e) ∙ eqb-true (bit_at word (k % 64)) 1 h
+
+pub unmarked_in : (words : List ℕ) (k word : ℕ) → word ≡ get_or words (k / 64) 0 → (bit_at word (k % 64) == 1) ≡ false → IsUnmarked words k
+unfolding mark_at
+unmarked_in words k word e h =
+    let b = bit_at-lt word (k % 64) in
+    let d : bit_at word (k % 64) ≢ 1 = eqb-false (bit_at word (k % 64)) 1 h in
+    ap (λ z. bit_at z (k % 64)) (sym e) ∙ omega (arith, b)
+
+-- ---- downwards
+
+pub none_in : (words : List ℕ) (k : ℕ) → k % 64 ≡ 0 → 0 < k → get_or words (k / 64 - 1) 0 ≡ 0 → NoneFrom words (k - 64) k
+unfolding mark_at
+none_in words k r pos e i ge lt =
+    let p : i / 64 ≡ k / 64 - 1 = omega arith in
+    ap (λ z. bit_at (get_or words z 0) (i % 64)) p ∙ (ap (λ z. bit_at z (i % 64)) e ∙ bit_at-zero (i % 64))
+
+pub none_one : (words : List ℕ) (k : ℕ) → 0 < k → IsUnmarked words (k - 1) → NoneFrom words (k - 1) k
+none_one words k pos u i ge lt = let e : i ≡ k - 1 = omega arith in subst (λ n. IsUnmarked words n) (sym e) u
+
+pub none_joined : (words : List ℕ) (from mid end : ℕ) → NoneFrom words from mid → NoneFrom words mid end → NoneFrom words from end
+none_joined words from mid end a b i ge lt = elim (cases_lt i mid) [ inl w ↦ a i ge w | inr w ↦ b i w lt ]

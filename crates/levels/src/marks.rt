@@ -1,4 +1,4 @@
-ghost use Rattle.std.specs.Prelude.{◌≡◌, ◌≢◌, ◌<◌, ◌≤◌, ◌+◌, ◌*◌, ◌^◌, ℕ, [], length, replicate, IfOk};
+ghost use Rattle.std.specs.Prelude.{◌≡◌, ◌≢◌, ◌<◌, ◌≤◌, ◌+◌, ◌-◌, ◌*◌, ◌^◌, ◌==◌, true, false, ℕ, [], length, replicate, IfOk};
 ghost use Rattle.std.specs.Int.{bit_at};
 ghost use Rattle.levels.specs.Marked.{mark_at, IsMarked, IsUnmarked, HasMore, NoneFrom, NoMoreUpTo, HasAll, HasAllAbove, IsFilled};
 
@@ -119,6 +119,47 @@ impl Marks {
         64 * self.words.len()
     }
 
+    /// Whether a number is in the set.
+    pub fn has(&self, k: usize) -> bool
+        requires { k < 64 * length self.now }
+        ensures yes { result ≡ true → IsMarked self.now k }
+        ensures no { result ≡ false → IsUnmarked self.now k }
+    {
+        bit_of(self.words[k / 64], (k % 64) as u32)
+    }
+
+    // A number below this one, with none of the set between them, where the one right below isn't in the set.
+    fn step_down(&self, k: usize) -> usize
+        requires some { 0 < k }
+        requires room { k ≤ 64 * length self.now }
+        requires unmarked { IsUnmarked self.now (k - 1) }
+        ensures lower { result < k }
+        ensures none { NoneFrom self.now result k }
+    {
+        if k % 64 == 0 && self.words[k / 64 - 1] == 0 {
+            k - 64
+        } else {
+            k - 1
+        }
+    }
+
+    /// One more than the greatest number of the set below this one, or 0 if there is none.
+    pub fn past_last(&self, end: usize) -> usize
+        requires { end ≤ 64 * length self.now }
+        ensures high { result ≤ end }
+        ensures none { NoneFrom self.now result end }
+        ensures found { 0 < result → IsMarked self.now (result - 1) }
+    {
+        let mut k = end;
+        while k > 0 {
+            if self.has(k - 1) {
+                return k;
+            }
+            k = self.step_down(k);
+        }
+        0
+    }
+
     /// How many numbers are in the words of the set that have the numbers below this one.
     pub fn count_to(&self, end: usize) -> usize {
         let mut count: usize = 0;
@@ -167,6 +208,14 @@ fn ones(alloc: Global, count: usize) -> Result<Vec<u64>, NoMemory>
     ensures { IfOk result (λ words. words.items ≡ replicate count 18446744073709551615) }
 {
     Ok(vec![in alloc; u64::MAX; count]?)
+}
+
+/// Whether a bit of a word is 1.
+pub fn bit_of(word: u64, bit: u32) -> bool
+    requires { bit < 64 }
+    ensures { result ≡ (bit_at word bit == 1) }
+{
+    (word >> bit) & 1 == 1
 }
 
 /// The least bit of a word that is 1, from this one on; 64 if there is none.

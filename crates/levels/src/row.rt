@@ -1,10 +1,10 @@
-ghost use Rattle.std.specs.Prelude.{◌≡◌, ◌≤◌, ◌<◌, ◌∷◌, ◌+◌, ◌*◌, ◌^◌, ◌==◌, ℕ, false, length, replicate, slice_index_or, IfOk};
+ghost use Rattle.std.specs.Prelude.{◌≡◌, ◌≤◌, ◌<◌, ◌∷◌, ◌+◌, ◌*◌, ◌^◌, ℕ, false, length, replicate, slice_index_or, IfOk};
 ghost use Rattle.std.specs.Int.{bit_at};
 ghost use Rattle.levels.specs.Levels.{shifted};
 ghost use Rattle.levels.specs.Rows.{IsPulled, HasTop, AllPulled, moved_at};
 ghost use Rattle.levels.specs.Marked.{mark_at};
 
-use crate::marks::first_bit;
+use crate::marks::{bit_of, first_bit};
 use rl_time::NoMemory;
 use smallvec::SmallVec;
 use std::alloc::Global;
@@ -80,14 +80,6 @@ fn zeros(alloc: Global, count: usize) -> Result<SmallVec<u64, 1>, NoMemory>
     ensures { IfOk result (λ words. words.items ≡ replicate count 0) }
 {
     Ok(SmallVec::from_elem(alloc, 0, count)?)
-}
-
-// Whether a bit of a word is 1.
-fn bit_of(word: u64, bit: u32) -> bool
-    requires { bit < 64 }
-    ensures { result ≡ (bit_at word bit == 1) }
-{
-    (word >> bit) & 1 == 1
 }
 
 // A word with this level as its top bit.

@@ -1,5 +1,5 @@
 ghost use Rattle.std.specs.Prelude.{◌≡◌, IfOk};
-ghost use Rattle.circuit.specs.Circuit.{Or};
+ghost use Rattle.circuit.specs.Circuit.{And, Not, Or};
 ghost use Rattle.circuit.specs.View.{logic};
 
 use crate::parts::names;
@@ -46,6 +46,30 @@ fn chain(alloc: Global) -> Result<Module, NoMemory> {
     Ok(Module::new(inputs, outputs, wires, regs, assigns))
 }
 
+fn and_not(alloc: Global, x: Bit, y: Bit) -> Result<Bit, NoMemory>
+    ensures { IfOk result (λ bit. logic bit ≡ And (logic x) (Not (logic y))) }
+{
+    let other = Bit::Not(Box::new(alloc, y)?);
+    Ok(Bit::And(Box::new(alloc, x)?, Box::new(alloc, other)?))
+}
+
+// A register that changes in each cycle, where the input is high.
+fn toggle(alloc: Global) -> Result<Module, NoMemory> {
+    test_shows_validity();
+    let inputs = names(alloc, &["a"])?;
+    let outputs = names(alloc, &["y"])?;
+    let wires = names(alloc, &["w0"])?;
+    let mut assigns = Vec::new(alloc);
+    assigns.push(Assign::new(
+        Target::Wire(0),
+        and_not(alloc, Bit::Input(0), Bit::Reg(0, 0))?,
+    ))?;
+    assigns.push(Assign::new(Target::Out(0), Bit::Wire(0)))?;
+    let mut regs = Vec::new(alloc);
+    regs.push(Reg::new(Name::new(alloc, b"r")?, 1, Bit::Wire(0)))?;
+    Ok(Module::new(inputs, outputs, wires, regs, assigns))
+}
+
 // A run of a module with one output has these digits and so many activations.
 fn expect(
     rt: &(impl Abort + AllocGlobal),
@@ -85,6 +109,24 @@ fn each_order_has_its_activations(rt: HostRuntime) -> Result<(), Fail> {
     ];
     for (m, rises, order, wanted) in cases {
         expect(&rt, m, rises, order, wanted)?;
+    }
+    Ok(())
+}
+
+#[test]
+fn a_register_that_toggles_runs_in_any_order(rt: HostRuntime) -> Result<(), Fail> {
+    let m = toggle(rt.alloc())?;
+    let (start, late) = ([Time::At(0)], [Time::At(2)]);
+    let cases = [
+        (start.as_slice(), 0, ("101", 12)),
+        (start.as_slice(), 1, ("101", 18)),
+        (start.as_slice(), 2, ("101", 12)),
+        (start.as_slice(), 3, ("101", 18)),
+        (late.as_slice(), 0, ("001", 8)),
+        (late.as_slice(), 1, ("001", 10)),
+    ];
+    for (rises, order, wanted) in cases {
+        expect(&rt, &m, rises, order, wanted)?;
     }
     Ok(())
 }

@@ -1,5 +1,5 @@
 use Rattle.std.proofs.Common.{length, ap, arith}
-use Rattle.cycle_sim.proofs.Filling.{all_up}
+use Rattle.marked_steps.proofs.Filling.{all_up}
 use Rattle.cycle_sim.proofs.pass.settle_plainly.Goals as goal
 
 pub returns-clause-up_to_date : goal.returns-clause-up_to_date

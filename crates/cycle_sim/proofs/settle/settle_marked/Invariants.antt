@@ -1,7 +1,7 @@
 use Rattle.std.proofs.Common.{◌≡◌, ◌-◌, length}
 use Rattle.circuit.specs.Meaning.{HasLevels}
 use Rattle.levels.specs.Marked.{NoneFrom}
-use Rattle.cycle_sim.specs.UpToDate.{IsUpToDate}
+use Rattle.marked_steps.specs.UpToDate.{IsUpToDate}
 use Rattle.cycle_sim.proofs.settle.settle_marked.Given as goal
 
 abbrev pub invariant-loop-k : goal.invariant-loop-k

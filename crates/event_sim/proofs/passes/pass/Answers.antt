@@ -1,55 +1,48 @@
-use Rattle.std.proofs.Common.{◌≡◌, ◌+◌, ◌<◌, Bool, true, false, length, get_or, sym, ap, ◌∙◌, subst, arith}
+use Rattle.std.proofs.Common.{◌≡◌, ◌+◌, ◌-◌, ◌<◌, Bool, ◌≤◌, true, false, length, reverse, refl, ap, ◌∙◌, sym, subst, arith}
 use Rattle.std.specs.Prelude.{◌||◌}
-use Rattle.std.proofs.lemmas.List.{take_all}
-use Rattle.circuit.specs.Meaning.{activate, activate_all}
-use Rattle.event_sim.specs.Orders.{numbered_order}
-use Rattle.event_sim.proofs.Numbering.{order_long}
-use Rattle.event_sim.proofs.Rounds.{Passing, passing_more, passing_quiet, some_assign}
+use Rattle.circuit.specs.Meaning.{upto, HasLevels}
+use Rattle.event_sim.specs.Passes.{IsPass}
+use Rattle.event_sim.specs.Orders.{begins, numbered_order}
+use Rattle.event_sim.proofs.Numbering.{begins_within}
+use Rattle.event_sim.proofs.Rounds.{some_assign}
+use Rattle.event_sim.proofs.Skipping.{passed_up, fits, or_first, or_second}
 use Rattle.event_sim.proofs.passes.pass.Goals as goal
-use Rattle.event_sim.proofs.passes.pass.Goals.{then-changed, else-changed}
-
-joined : (before r after : Bool) → before ≡ true → after ≡ true → after ≡ (before || r)
-joined before r after h e = e ∙ ap (λ z. z || r) (sym h)
-
-joined_other : (before r after : Bool) → before ≡ false → after ≡ r → after ≡ (before || r)
-joined_other before r after h e = e ∙ ap (λ z. z || r) (sym h)
 
 pub begins-begin-requires : goal.begins-begin-requires
 begins-begin-requires c = omega (arith, ap (λ z. length z) c.assigns-count.ensures, some_assign c.args.m.now c.rules.ensures)
 
-pub loop-place-preserved : goal.loop-place-preserved
-loop-place-preserved c =
-    let m = c.args.m.now in
-    let order = c.args.order in
-    let place = c.loop-place.place in
-    let s = c.loop-place.levels in
-    let r = c.activate-now.result in
-    let ks = numbered_order (length m.assigns) order in
-    let n : length c.assigns-count.result.now ≡ length m.assigns = ap (λ z. length z) c.assigns-count.ensures in
-    let k : c.assign_at.result ≡ get_or ks place 0 = c.assign_at.ensures.is ∙ ap (λ z. get_or (numbered_order z order) place 0) n in
-    let within : place < length ks = omega (arith, order_long (length m.assigns) order (some_assign m c.rules.ensures), n, c.loop-place-test.true) in
-    let state = c.activate-now.ensures.state ∙ ap (λ z. activate m s z) k in
-    let more = passing_more m ks c.args.levels.now s c.activate-now.new.levels place c.loop-place.changed r c.loop-place.invariant within state
-    (λ h. sym state ∙ c.activate-now.ensures.same h) (λ h e. c.activate-now.ensures.changed h (state ∙ e)) in
-    let e : c.if-changed.changed ≡ (c.loop-place.changed || r) = elim c.if-changed.branch [
-      | then-changed w ↦ joined c.loop-place.changed r c.if-changed.changed w.if-changed.true (w.changed-is ∙ w.if-changed.true)
-      | else-changed w ↦ joined_other c.loop-place.changed r c.if-changed.changed w.if-changed.false w.changed-is
-    ] in
-    subst (λ z. Passing m ks c.args.levels.now c.activate-now.new.levels (place + 1) z) (sym e) more
+pub rise-high-requires-clause-start : goal.rise-high-requires-clause-start
+rise-high-requires-clause-start c =
+    let n = length c.assigns-count.result.now in
+    omega (arith, c.begins-begin.ensures, begins_within n c.args.order (omega (arith, ap (λ z. length z) c.assigns-count.ensures, some_assign c.args.m.now c.rules.ensures)))
 
-pub returns-clause-state : goal.returns-clause-state
-returns-clause-state c =
-    let m = c.args.m.now in
-    let ks = numbered_order (length m.assigns) c.args.order in
-    let long = order_long (length m.assigns) c.args.order (some_assign m c.rules.ensures) in
-    let n : length c.assigns-count.result.now ≡ length m.assigns = ap (λ z. length z) c.assigns-count.ensures in
-    c.loop-place.invariant.state ∙ ap (λ z. activate_all m c.args.levels.now z) (take_all c.loop-place.place ks (omega (arith, long, n, c.loop-place-test.false)))
+pub rise-low-requires-clause-end : goal.rise-low-requires-clause-end
+rise-low-requires-clause-end c =
+    let n = length c.assigns-count.result.now in
+    let e = ap (λ z. length z) c.assigns-count.ensures in
+    omega (arith, e, c.begins-begin.ensures, begins_within n c.args.order (omega (arith, e, some_assign c.args.m.now c.rules.ensures)))
 
-pub returns-clause-still : goal.returns-clause-still
-returns-clause-still c = λ h.
+pub rise-low-requires-clause-levels : goal.rise-low-requires-clause-levels
+rise-low-requires-clause-levels c = fits c.args.m.now _ c.args.levels.now c.rise-high.new.levels c.rise-high.result c.rise-high.ensures.pass c.requires.levels
+
+pub returns-then-high-clause-pass : goal.returns-then-high-clause-pass
+returns-then-high-clause-pass c =
     let m = c.args.m.now in
-    let ks = numbered_order (length m.assigns) c.args.order in
-    let long = order_long (length m.assigns) c.args.order (some_assign m c.rules.ensures) in
-    let n : length c.assigns-count.result.now ≡ length m.assigns = ap (λ z. length z) c.assigns-count.ensures in
-    let p = subst (λ z. Passing m ks c.args.levels.now c.loop-place.levels c.loop-place.place z) h c.loop-place.invariant in
-    passing_quiet m ks c.args.levels.now c.loop-place.levels c.loop-place.place p (omega (arith, long, n, c.loop-place-test.false))
+    let n = length c.assigns-count.result.now in
+    let e : n ≡ length m.assigns = ap (λ z. length z) c.assigns-count.ensures in
+    subst (λ z. IsPass m (numbered_order z c.args.order) c.args.levels.now c.rise-low.new.levels c.rise-high.result) e
+    (subst (λ z. IsPass m (numbered_order n c.args.order) c.args.levels.now c.rise-low.new.levels z)
+    (or_first c.rise-high.result c.rise-low.result c.rise-high.result c.if-high.true refl)
+    (passed_up m n c.args.order c.begins-begin.result c.args.levels.now c.rise-high.new.levels c.rise-low.new.levels c.rise-high.result c.rise-low.result
+    c.if-order-eq1.false c.begins-begin.ensures c.rise-high.ensures.pass c.rise-low.ensures.pass))
+
+pub returns-else-high-clause-pass : goal.returns-else-high-clause-pass
+returns-else-high-clause-pass c =
+    let m = c.args.m.now in
+    let n = length c.assigns-count.result.now in
+    let e : n ≡ length m.assigns = ap (λ z. length z) c.assigns-count.ensures in
+    subst (λ z. IsPass m (numbered_order z c.args.order) c.args.levels.now c.rise-low.new.levels c.rise-low.result) e
+    (subst (λ z. IsPass m (numbered_order n c.args.order) c.args.levels.now c.rise-low.new.levels z)
+    (or_second c.rise-high.result c.rise-low.result c.rise-low.result c.if-high.false refl)
+    (passed_up m n c.args.order c.begins-begin.result c.args.levels.now c.rise-high.new.levels c.rise-low.new.levels c.rise-high.result c.rise-low.result
+    c.if-order-eq1.false c.begins-begin.ensures c.rise-high.ensures.pass c.rise-low.ensures.pass))

@@ -31,13 +31,13 @@ invariant_of-self c =
     elim c.if-self.branch [
       | then-self w ↦ subst (λ x. Kept m x) (sym w.self-inside-is) (record {
         circuit = refl;
-        levels = subst (λ s. HasAllLevels m s) (sym w.clock_edge-self-inside.ensures.state) (edge_keeps m c.self.inside.levels i.levels);
+        levels = subst (λ s. HasAllLevels m s) (sym w.clock_edge-changed.ensures.state) (edge_keeps m c.self.inside.levels i.levels);
         readers = i.readers;
         taps = i.taps;
-        room = omega (arith, i.room, w.clock_edge-self-inside.ensures.room);
-        moving_room = omega (arith, i.moving_room, w.clock_edge-self-inside.ensures.moving_room);
-        next_room = sym (length_refill firsts.len firsts.items w.clock_edge-self-inside.new.firsts firsts.ok.0) ∙ (firsts.ok.0 ∙ i.next_room);
-        none = w.clock_edge-self-inside.ensures.none;
+        room = omega (arith, i.room, w.clock_edge-changed.ensures.room);
+        moving_room = omega (arith, i.moving_room, w.clock_edge-changed.ensures.moving_room);
+        next_room = sym (length_refill firsts.len firsts.items w.clock_edge-changed.new.firsts firsts.ok.0) ∙ (firsts.ok.0 ∙ i.next_room);
+        none = w.clock_edge-changed.ensures.none;
       })
       | else-self w ↦ subst (λ x. Kept m x) (sym w.self-inside-is) (record {
         circuit = refl;
