@@ -2,6 +2,8 @@
 #![tactic(auto)]
 
 #[cfg(test)]
+mod decisions;
+#[cfg(test)]
 mod differences;
 #[cfg(test)]
 mod tree_texts;

@@ -288,7 +288,7 @@ shortest_is edges T i j c = go (T i j) refl
         let high = way.2 in
         ((way.0, way.1, omega (arith, ints, low, high)), at_least)
 
-least_is : (edges : List Assumption) (T : ℕ → ℕ → Option ℤ) (y : ℕ → ℤ) (i j : ℕ) → IsTable edges T → MeetsAll y edges → IsLeast edges i j (T i j)
+pub least_is : (edges : List Assumption) (T : ℕ → ℕ → Option ℤ) (y : ℕ → ℤ) (i j : ℕ) → IsTable edges T → MeetsAll y edges → IsLeast edges i j (T i j)
 least_is edges T y i j c meets = go (T i j) refl
   where
     go : (o : Option ℤ) → T i j ≡ o → IsLeast edges i j o

@@ -123,7 +123,7 @@ module _ (ns : List ℕ) (known : Known) (sound : IsSound ns known) where
       lt-no time.Never time.Never h = refl
   lt_chosen None s t g a p = tt
 
-  min_holds : (g h : Form) (s t : Time) → Holds (numbers ns) g s → Holds (numbers ns) h t → Holds (numbers ns) (min_form known g h) (time_min s t)
+  pub min_holds : (g h : Form) (s t : Time) → Holds (numbers ns) g s → Holds (numbers ns) h t → Holds (numbers ns) (min_form known g h) (time_min s t)
   min_holds Undecided h s t p q = tt
   min_holds Never h s t p q = subst (λ (u : Time). Holds (numbers ns) h (time_min u t)) (sym p) q
   min_holds (Plus i c) Undecided s t p q = tt
@@ -135,7 +135,7 @@ module _ (ns : List ℕ) (known : Known) (sound : IsSound ns known) where
   min_holds (Plus i c) (Plus j d) s t p q =
       min_chosen (compared known i c j d) s t (Plus i c) (Plus j d) (rw (p, q) (answered i c j d)) p q
 
-  max_holds : (g h : Form) (s t : Time) → Holds (numbers ns) g s → Holds (numbers ns) h t → Holds (numbers ns) (max_form known g h) (time_max s t)
+  pub max_holds : (g h : Form) (s t : Time) → Holds (numbers ns) g s → Holds (numbers ns) h t → Holds (numbers ns) (max_form known g h) (time_max s t)
   max_holds Undecided h s t p q = tt
   max_holds Never Undecided s t p q = tt
   max_holds Never Never s t p q = ap (λ (u : Time). time_max u t) p
@@ -149,7 +149,7 @@ module _ (ns : List ℕ) (known : Known) (sound : IsSound ns known) where
   max_holds (Plus i c) (Plus j d) s t p q =
       max_chosen (compared known i c j d) s t (Plus i c) (Plus j d) (rw (p, q) (answered i c j d)) p q
 
-  lt_holds : (g h : Form) (s t : Time) → Holds (numbers ns) g s → Holds (numbers ns) h t → Holds (numbers ns) (lt_form known g h) (time_lt s t)
+  pub lt_holds : (g h : Form) (s t : Time) → Holds (numbers ns) g s → Holds (numbers ns) h t → Holds (numbers ns) (lt_form known g h) (time_lt s t)
   lt_holds Undecided h s t p q = tt
   lt_holds Never Undecided s t p q = tt
   lt_holds Never Never s t p q = ap (λ (u : Time). time_lt u t) p
@@ -163,7 +163,7 @@ module _ (ns : List ℕ) (known : Known) (sound : IsSound ns known) where
   lt_holds (Plus i c) (Plus j d) s t p q =
       lt_chosen (compared known j d i c) s t (Plus i c) (rw (p, q) (answered j d i c)) p
 
-  inc_holds : (g : Form) (s : Time) (c : ℕ) → Holds (numbers ns) g s → Holds (numbers ns) (inc_form g c) (time_inc s c)
+  pub inc_holds : (g : Form) (s : Time) (c : ℕ) → Holds (numbers ns) g s → Holds (numbers ns) (inc_form g c) (time_inc s c)
   inc_holds Undecided s c p = tt
   inc_holds Never s c p = ap (λ (u : Time). time_inc u c) p
   inc_holds (Plus i b) s c p = ap (λ (u : Time). time_inc u c) p ∙ twice (time_at (numbers ns) i)
@@ -172,7 +172,7 @@ module _ (ns : List ℕ) (known : Known) (sound : IsSound ns known) where
       twice (time.At a) = ap (λ (n : ℕ). time.At n) (omega arith)
       twice time.Never = refl
 
-  plus_zero : (t : Time) → t ≡ time_inc t 0
+  pub plus_zero : (t : Time) → t ≡ time_inc t 0
   plus_zero (time.At a) = ap (λ (n : ℕ). time.At n) (omega arith)
   plus_zero time.Never = refl
 

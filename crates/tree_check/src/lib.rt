@@ -20,5 +20,6 @@ mod table;
 mod walk;
 
 pub use fault::CheckFault;
+pub use form::Form;
 pub use laws::{valid_or_fault, valid_trees_are_trees, valid_trees_decide};
 pub use walk::check;

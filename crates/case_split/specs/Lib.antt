@@ -1,0 +1,13 @@
+pub mod TermForms
+pub mod Decided
+pub mod Live
+pub mod Stages
+pub mod Nested
+pub mod Task
+pub mod Leaves
+pub mod Verdicts
+pub mod Steps
+pub mod Walk
+pub mod Gathered
+pub mod Parted
+pub mod Comparison
