@@ -180,6 +180,26 @@ pub fn expect_on(
     Ok(())
 }
 
+// What the words write over a shelf that holds these files, and the status with which they end.
+pub fn answer_on(
+    rt: &impl Abort,
+    alloc: Global,
+    shelf: &[(&str, &[u8])],
+    words: &[&str],
+) -> Result<(Status, Vec<u8>), Fail> {
+    let mut files = Vec::new(alloc);
+    for (name, file) in shelf {
+        files.push((String::from_str(alloc, name)?, file.to_vec(alloc)?))?;
+    }
+    assert!(rt; are_distinct(&files));
+    let mut shelf = MemShelf::new(files, 65536, Vec::new(alloc));
+    let mut out = MemSink::new(alloc, 8388608, 65536, Vec::new(alloc))?;
+    let mut err = MemSink::new(alloc, 4096, 4096, Vec::new(alloc))?;
+    let words = texts(alloc, words)?;
+    let status = run(alloc, &words, &mut shelf, &mut out, &mut err);
+    Ok((status, out.written().to_vec(alloc)?))
+}
+
 // What the words write, where they name one file, "f".
 pub fn output_of(
     rt: &impl Abort,
@@ -187,16 +207,9 @@ pub fn output_of(
     file: &[u8],
     words: &[&str],
 ) -> Result<Vec<u8>, Fail> {
-    let mut files = Vec::new(alloc);
-    files.push((String::from_str(alloc, "f")?, file.to_vec(alloc)?))?;
-    assert!(rt; are_distinct(&files));
-    let mut shelf = MemShelf::new(files, 65536, Vec::new(alloc));
-    let mut out = MemSink::new(alloc, 8388608, 65536, Vec::new(alloc))?;
-    let mut err = MemSink::new(alloc, 4096, 4096, Vec::new(alloc))?;
-    let words = texts(alloc, words)?;
-    let status = run(alloc, &words, &mut shelf, &mut out, &mut err);
+    let (status, text) = answer_on(rt, alloc, &[("f", file)], words)?;
     assert_eq!(rt; status, Status::Done);
-    Ok(out.written().to_vec(alloc)?)
+    Ok(text)
 }
 
 // The file is compiled to this module.

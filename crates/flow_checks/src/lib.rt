@@ -6,6 +6,8 @@ mod certificates;
 #[cfg(test)]
 mod commands;
 #[cfg(test)]
+mod equalities;
+#[cfg(test)]
 mod large;
 #[cfg(test)]
 mod modules;

@@ -6,13 +6,15 @@ use rl_flow::{Refusal, line, run};
 use rl_io::{FileShelf, StdSink, put_all};
 use std::alloc::AllocError;
 use std::env;
+use std::io::ErrorKind;
 use std::process::ExitCode;
 
-/// The arguments. If one isn't UTF-8, a single empty word, which no command accepts.
+/// The arguments. If one isn't UTF-8, a single empty word, which no command accepts. The error is that of memory that ran out.
 fn words(rt: &HostRuntime) -> Result<Vec<String>, AllocError> {
     let alloc = rt.alloc();
     match env::args(rt) {
         Ok(args) => args.skip(1).collect(alloc),
+        Err(error) if error.kind() == ErrorKind::OutOfMemory => Err(AllocError),
         Err(_) => {
             let mut words = Vec::new(alloc);
             words.push(String::new(alloc))?;

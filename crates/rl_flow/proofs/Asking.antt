@@ -10,7 +10,7 @@ use Rattle.std.proofs.lemmas.Slice.Eq.{bytes_eq-Decides}
 use Rattle.rl_time.specs.declared.time.Time.{Time}
 use Rattle.rl_time.specs.declared.time.Time.TheVariants as time
 use Rattle.rl_time.specs.Text.{time_text, FitsIn64Bits}
-use Rattle.rl_flow.specs.Task.{command_of, check_command, of_one_file}
+use Rattle.rl_flow.specs.Task.{command_of, check_command, compare_command, of_one_file}
 use Rattle.rl_flow.specs.Words.{number_word, time_word}
 
 -- r is what a reader gives of each text that some time has
@@ -139,3 +139,9 @@ not_three (a ∷ []) other = refl
 not_three (a ∷ b ∷ []) other = refl
 not_three (a ∷ b ∷ c ∷ []) other = absurd (other refl)
 not_three (a ∷ b ∷ c ∷ d ∷ words) other = refl
+
+pub no_pair : (words : List (String Global)) → length words < 2 → None ≡ compare_command (map string_bytes words)
+unfolding compare_command
+no_pair [] few = refl
+no_pair (a ∷ []) few = refl
+no_pair (a ∷ b ∷ words) few = absurd (omega (arith, few))

@@ -20,9 +20,11 @@ use Rattle.rl_jobs.specs.Windows.{IsWindowText, CanBeTabulated}
 use Rattle.rl_flow.specs.Activations.{IsOrderText}
 use Rattle.rl_flow.specs.Levels.{IsLevelText, CanBeSimulated}
 use Rattle.rl_flow.specs.Counted.{big_text}
-use Rattle.rl_flow.specs.Task.{Task, Compile, Eval, Synth, Simplify, Tabulate, Sim, SimInOrder, Check, Big, Command}
+use Rattle.rl_flow.specs.Task.{Task, Compile, Eval, Synth, Simplify, Tabulate, Sim, SimInOrder, Check, Compare, Big, Command}
 use Rattle.rl_flow.specs.Asked.{Asked, ShelfState, with_limits, asked, IsTextOf, AreTextsOf, IsTooLong}
-use Rattle.rl_flow.specs.Answers.{OnNone, OnOne, OnThree, IsText, MayHave, CanBeDone, IsCause}
+use Rattle.rl_jobs.specs.Pairs.{TwoTexts, two_texts, CanBeCompared}
+use Rattle.rl_flow.specs.Equality.{SayEqual, SayDifferent, SayUndecided, IsSaid}
+use Rattle.rl_flow.specs.Answers.{OnNone, OnOne, OnTwo, OnThree, IsText, MayHave, CanBeDone, IsCause}
 use Rattle.rl_flow.specs.Message.{line_of}
 use Rattle.rl_flow.specs.Status.{status_of}
 use Rattle.rl_flow.specs.Outcome.{OnTexts, HasCause, IsRefused, IsOrGivesWay, NoneRose, PutsLine, EndsBy}
@@ -123,6 +125,13 @@ only [] P Q f x = absurd x
 only (bytes ∷ []) P Q f x = f bytes x
 only (bytes ∷ other ∷ texts) P Q f x = absurd x
 
+-- two texts have another property
+two : (texts : List (List ℕ)) (P Q : TwoTexts → Type 0) → ((t : TwoTexts) → P t → Q t) → OnTwo texts P → OnTwo texts Q
+two [] P Q f x = absurd x
+two (a ∷ []) P Q f x = absurd x
+two (a ∷ b ∷ []) P Q f x = f (two_texts a b) x
+two (a ∷ b ∷ c ∷ texts) P Q f x = absurd x
+
 -- three texts have another property
 three : (texts : List (List ℕ)) (P Q : ThreeTexts → Type 0) → ((t : ThreeTexts) → P t → Q t) → OnThree texts P → OnThree texts Q
 three [] P Q f x = absurd x
@@ -146,8 +155,18 @@ can (Sim cycles times) verdict.No texts answer x = absurd x
 can (SimInOrder cycles times order) verdict.No texts answer x = absurd x
 can Check verdict.No texts answer x =
     three texts (λ t. IsRefusedText t answer) CanBeChecked (λ t y. (y.claim, y.read, y.agree)) x
+can (Compare budget) verdict.No texts answer x = two texts (λ t. IsSaid SayDifferent t answer) CanBeCompared (λ t y. (y.pair, y.read, y.same)) x
 can (Big n) verdict.No texts answer x = absurd x
-can task verdict.Undecided texts answer x = absurd x
+can Compile verdict.Undecided texts answer x = absurd x
+can (Eval times) verdict.Undecided texts answer x = absurd x
+can Synth verdict.Undecided texts answer x = absurd x
+can Simplify verdict.Undecided texts answer x = absurd x
+can (Tabulate name window) verdict.Undecided texts answer x = absurd x
+can (Sim cycles times) verdict.Undecided texts answer x = absurd x
+can (SimInOrder cycles times order) verdict.Undecided texts answer x = absurd x
+can Check verdict.Undecided texts answer x = absurd x
+can (Compare budget) verdict.Undecided texts answer x = two texts (λ t. IsSaid (SayUndecided budget) t answer) CanBeCompared (λ t y. (y.pair, y.read, y.same)) x
+can (Big n) verdict.Undecided texts answer x = absurd x
 can Compile verdict.Done texts answer x =
     only texts (λ b. IsModuleText b answer) CanBeCompiled (λ b y. (y.source, y.read, has_few y.source y.few)) x
 can (Eval times) verdict.Done texts answer x =
@@ -167,6 +186,7 @@ can (SimInOrder cycles times order) verdict.Done texts answer x =
     only texts (λ b. IsOrderText cycles times order b answer) (CanBeSimulated times) (λ b y. (y.levels.circuit, y.levels.read, y.levels.one_for_each_input)) x
 can Check verdict.Done texts answer x =
     three texts (λ t. IsAcceptedText t answer) CanBeChecked (λ t y. (y.claim, y.read, y.agree)) x
+can (Compare budget) verdict.Done texts answer x = two texts (λ t. IsSaid (SayEqual budget) t answer) CanBeCompared (λ t y. (y.pair, y.read, y.same)) x
 can (Big n) verdict.Done texts answer x = none texts (answer ≡ big_text n) (Unit {0}) (λ e. tt) x
 
 may : (task : Task) (v : Verdict) (texts : List (List ℕ)) (answer : List ℕ) → IsText task v texts answer → MayHave task v
@@ -178,8 +198,18 @@ may (Tabulate name window) verdict.No texts answer x = absurd x
 may (Sim cycles times) verdict.No texts answer x = absurd x
 may (SimInOrder cycles times order) verdict.No texts answer x = absurd x
 may Check verdict.No texts answer x = tt
+may (Compare budget) verdict.No texts answer x = tt
 may (Big n) verdict.No texts answer x = absurd x
-may task verdict.Undecided texts answer x = absurd x
+may Compile verdict.Undecided texts answer x = absurd x
+may (Eval times) verdict.Undecided texts answer x = absurd x
+may Synth verdict.Undecided texts answer x = absurd x
+may Simplify verdict.Undecided texts answer x = absurd x
+may (Tabulate name window) verdict.Undecided texts answer x = absurd x
+may (Sim cycles times) verdict.Undecided texts answer x = absurd x
+may (SimInOrder cycles times order) verdict.Undecided texts answer x = absurd x
+may Check verdict.Undecided texts answer x = absurd x
+may (Compare budget) verdict.Undecided texts answer x = tt
+may (Big n) verdict.Undecided texts answer x = absurd x
 may task verdict.Done texts answer x = tt
 
 -- ---- commands

@@ -21,9 +21,10 @@ use Rattle.rl_jobs.specs.Windows.{CanBeWritten, CanBeTabulated, IsNotTabulated}
 use Rattle.verilog_laws.specs.Answers.{HasAnswer}
 use Rattle.rl_flow.specs.Asked.{limits}
 use Rattle.rl_flow.specs.Levels.{IsNoModule, HasOtherPorts, CanBeSimulated, IsNotSimulated}
-use Rattle.rl_flow.specs.Task.{Task, Compile, Eval, Synth, Simplify, Tabulate, Sim, SimInOrder, Check, Big}
+use Rattle.rl_flow.specs.Task.{Task, Compile, Eval, Synth, Simplify, Tabulate, Sim, SimInOrder, Check, Compare, Big}
 use Rattle.rl_jobs.specs.Checked.{ThreeTexts, three_texts, Claim, SpellClaim, Agree, CanBeChecked, AreNotChecked}
-use Rattle.rl_flow.specs.Answers.{OnNone, OnOne, OnThree, CanBeDone, IsCause}
+use Rattle.rl_jobs.specs.Pairs.{TwoTexts, two_texts, SpellPair, HaveSameNames, CanBeCompared, AreNotCompared}
+use Rattle.rl_flow.specs.Answers.{OnNone, OnOne, OnTwo, OnThree, CanBeDone, IsCause}
 
 -- ---- modules
 
@@ -72,6 +73,13 @@ both [] P Q C f x y = absurd x
 both (bytes ∷ []) P Q C f x y = f bytes x y
 both (bytes ∷ other ∷ texts) P Q C f x y = absurd x
 
+-- what follows from two properties of two texts
+pub both_of_two : (texts : List (List ℕ)) (P Q : TwoTexts → Type 0) (C : Type 0) → ((two : TwoTexts) → P two → Q two → C) → OnTwo texts P → OnTwo texts Q → C
+both_of_two [] P Q C f x y = absurd x
+both_of_two (a ∷ []) P Q C f x y = absurd x
+both_of_two (a ∷ b ∷ []) P Q C f x y = f (two_texts a b) x y
+both_of_two (a ∷ b ∷ c ∷ texts) P Q C f x y = absurd x
+
 -- what follows from two properties of three texts
 pub both_of_three : (texts : List (List ℕ)) (P Q : ThreeTexts → Type 0) (C : Type 0) → ((three : ThreeTexts) → P three → Q three → C) → OnThree texts P → OnThree texts Q → C
 both_of_three [] P Q C f x y = absurd x
@@ -89,6 +97,7 @@ pub record Readings : Type 0 where
   pub tabulating : (name : List ℕ) (window : ℕ) → IsReading (λ bytes n. SpellsNetwork bytes n × CanBeWritten name window n) (IsNotTabulated name window)
   pub simulating : (times : List Time) → IsReading (λ bytes m. SpellsModule bytes m × (length times ≡ length m.inputs)) (IsNotSimulated times)
   pub checking : IsReading (λ texts c. SpellClaim texts c × Agree c) AreNotChecked
+  pub pairing : IsReading (λ texts p. SpellPair texts p × HaveSameNames p) AreNotCompared
 
 pub one_fault : Readings → (task : Task) (texts : List (List ℕ)) (f g : Fault) → IsCause task texts f → IsCause task texts g → f ≡ g
 one_fault h Compile texts f g x y =
@@ -107,6 +116,8 @@ one_fault h (SimInOrder cycles times order) texts f g x y =
     both texts (λ b. IsNotSimulated times b f) (λ b. IsNotSimulated times b g) (f ≡ g) (λ b. (h.simulating times).one_fault b f g) x y
 one_fault h Check texts f g x y =
     both_of_three texts (λ t. AreNotChecked t f) (λ t. AreNotChecked t g) (f ≡ g) (λ t. h.checking.one_fault t f g) x y
+one_fault h (Compare budget) texts f g x y =
+    both_of_two texts (λ t. AreNotCompared t f) (λ t. AreNotCompared t g) (f ≡ g) (λ t. h.pairing.one_fault t f g) x y
 one_fault h (Big n) texts f g x y = absurd x
 
 pub no_fault : Readings → (task : Task) (texts : List (List ℕ)) (f : Fault) → CanBeDone task texts → IsCause task texts f → ⊥
@@ -126,6 +137,8 @@ no_fault h (SimInOrder cycles times order) texts f x y =
     both texts (CanBeSimulated times) (λ b. IsNotSimulated times b f) ⊥ (λ b can bad. (h.simulating times).not_both b can.0 f (can.1, can.2) bad) x y
 no_fault h Check texts f x y =
     both_of_three texts CanBeChecked (λ t. AreNotChecked t f) ⊥ (λ t can bad. h.checking.not_both t can.0 f (can.1, can.2) bad) x y
+no_fault h (Compare budget) texts f x y =
+    both_of_two texts CanBeCompared (λ t. AreNotCompared t f) ⊥ (λ t can bad. h.pairing.not_both t can.0 f (can.1, can.2) bad) x y
 no_fault h (Big n) texts f x y = absurd y
 
 -- what holds where there is no text
@@ -139,6 +152,14 @@ only : (texts : List (List ℕ)) (P : List ℕ → Type 0) (Q : Fault → List �
 only [] P Q e either = absurd (cc)
 only (bytes ∷ []) P Q e either = either bytes
 only (bytes ∷ other ∷ texts) P Q e either = absurd (cc)
+
+-- the same for two texts
+two : (texts : List (List ℕ)) (P : TwoTexts → Type 0) (Q : Fault → TwoTexts → Type 0) → length texts ≡ 2 → ((t : TwoTexts) → P t ⊎ ((f : Fault) × Q f t)) →
+    OnTwo texts P ⊎ ((f : Fault) × OnTwo texts (Q f))
+two [] P Q e either = absurd (cc)
+two (a ∷ []) P Q e either = absurd (cc)
+two (a ∷ b ∷ []) P Q e either = either (two_texts a b)
+two (a ∷ b ∷ c ∷ texts) P Q e either = absurd (cc)
 
 -- the same for three texts
 three : (texts : List (List ℕ)) (P : ThreeTexts → Type 0) (Q : Fault → ThreeTexts → Type 0) → length texts ≡ 3 → ((t : ThreeTexts) → P t ⊎ ((f : Fault) × Q f t)) →
@@ -168,4 +189,6 @@ done_or_fault h (SimInOrder cycles times order) texts e = only texts (CanBeSimul
     (λ b. flat Circuit (SpellsModule b) (λ m. length times ≡ length m.inputs) ((f : Fault) × IsNotSimulated times b f) ((h.simulating times).some b))
 done_or_fault h Check texts e = three texts CanBeChecked (λ f t. AreNotChecked t f) e
     (λ t. flat Claim (SpellClaim t) Agree ((f : Fault) × AreNotChecked t f) (h.checking.some t))
+done_or_fault h (Compare budget) texts e = two texts CanBeCompared (λ f t. AreNotCompared t f) e
+    (λ t. flat (Net × Net) (SpellPair t) HaveSameNames ((f : Fault) × AreNotCompared t f) (h.pairing.some t))
 done_or_fault h (Big n) texts e = inl (none texts (Unit {0}) e tt)

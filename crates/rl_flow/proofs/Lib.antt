@@ -11,3 +11,4 @@ pub mod Histories
 pub mod Counting
 pub mod Reading
 pub mod Marks
+pub mod Equal

@@ -19,8 +19,8 @@ use Rattle.rl_flow.specs.Counted.{big_text}
 use Rattle.rl_flow.specs.Levels.{IsNoModule, IsLevelText, level_lines}
 use Rattle.rl_flow.specs.declared.verdict.Verdict.{Verdict}
 use Rattle.rl_flow.specs.declared.verdict.Verdict.TheVariants as verdict
-use Rattle.rl_flow.specs.Task.{Task, Compile, Eval, Synth, Simplify, Tabulate, Sim, SimInOrder, Check, Big}
-use Rattle.rl_flow.specs.Answers.{IsText}
+use Rattle.rl_flow.specs.Task.{Task, Compile, Eval, Synth, Simplify, Tabulate, Sim, SimInOrder, Check, Compare, Big}
+use Rattle.rl_flow.specs.Answers.{HasOneText, IsText}
 use Rattle.rl_flow.proofs.Judging.{both_of_none, both, both_of_three}
 
 -- ---- sim
@@ -62,32 +62,43 @@ pub record Texts : Type 0 where
   pub accepted : (texts : ThreeTexts) (a b : List ℕ) → IsAcceptedText texts a → IsAcceptedText texts b → a ≡ b
   pub refused : (texts : ThreeTexts) (a b : List ℕ) → IsRefusedText texts a → IsRefusedText texts b → a ≡ b
 
-pub one_text : Texts → (task : Task) (v : Verdict) (texts : List (List ℕ)) (a b : List ℕ) → IsText task v texts a → IsText task v texts b → a ≡ b
-one_text h Compile verdict.Done texts a b x y =
+pub one_text : Texts → (task : Task) (v : Verdict) (texts : List (List ℕ)) (a b : List ℕ) → HasOneText task → IsText task v texts a → IsText task v texts b → a ≡ b
+one_text h Compile verdict.Done texts a b one x y =
     both texts (λ t. IsModuleText t a) (λ t. IsModuleText t b) (a ≡ b) (λ t. h.modules t a b) x y
-one_text h (Eval times) verdict.Done texts a b x y =
+one_text h (Eval times) verdict.Done texts a b one x y =
     both texts (λ t. IsValueText times t a) (λ t. IsValueText times t b) (a ≡ b) (λ t. h.values times t a b) x y
-one_text h Synth verdict.Done texts a b x y =
+one_text h Synth verdict.Done texts a b one x y =
     both texts (λ t. IsSynthesisText t a) (λ t. IsSynthesisText t b) (a ≡ b) (λ t. h.networks t a b) x y
-one_text h Simplify verdict.Done texts a b x y =
+one_text h Simplify verdict.Done texts a b one x y =
     both texts (λ t. IsSimplifiedText t a) (λ t. IsSimplifiedText t b) (a ≡ b) (λ t. h.simplified t a b) x y
-one_text h (Tabulate name window) verdict.Done texts a b x y =
+one_text h (Tabulate name window) verdict.Done texts a b one x y =
     both texts (λ t. IsWindowText name window t a) (λ t. IsWindowText name window t b) (a ≡ b) (λ t. h.windows name window t a b) x y
-one_text h (Sim cycles times) verdict.Done texts a b x y =
+one_text h (Sim cycles times) verdict.Done texts a b one x y =
     both texts (λ t. IsLevelText cycles times t a) (λ t. IsLevelText cycles times t b) (a ≡ b) (λ t. h.levels cycles times t a b) x y
-one_text h (SimInOrder cycles times order) verdict.Done texts a b x y =
+one_text h (SimInOrder cycles times order) verdict.Done texts a b one x y =
     both texts (λ t. IsOrderText cycles times order t a) (λ t. IsOrderText cycles times order t b) (a ≡ b) (λ t. h.orders cycles times order t a b) x y
-one_text h Check verdict.Done texts a b x y =
+one_text h Check verdict.Done texts a b one x y =
     both_of_three texts (λ t. IsAcceptedText t a) (λ t. IsAcceptedText t b) (a ≡ b) (λ t. h.accepted t a b) x y
-one_text h (Big n) verdict.Done texts a b x y = both_of_none texts (a ≡ big_text n) (b ≡ big_text n) (a ≡ b) (λ p q. p ∙ sym q) x y
-one_text h Compile verdict.No texts a b x y = absurd x
-one_text h (Eval times) verdict.No texts a b x y = absurd x
-one_text h Synth verdict.No texts a b x y = absurd x
-one_text h Simplify verdict.No texts a b x y = absurd x
-one_text h (Tabulate name window) verdict.No texts a b x y = absurd x
-one_text h (Sim cycles times) verdict.No texts a b x y = absurd x
-one_text h (SimInOrder cycles times order) verdict.No texts a b x y = absurd x
-one_text h Check verdict.No texts a b x y =
+one_text h (Compare budget) verdict.Done texts a b one x y = absurd one
+one_text h (Big n) verdict.Done texts a b one x y = both_of_none texts (a ≡ big_text n) (b ≡ big_text n) (a ≡ b) (λ p q. p ∙ sym q) x y
+one_text h Compile verdict.No texts a b one x y = absurd x
+one_text h (Eval times) verdict.No texts a b one x y = absurd x
+one_text h Synth verdict.No texts a b one x y = absurd x
+one_text h Simplify verdict.No texts a b one x y = absurd x
+one_text h (Tabulate name window) verdict.No texts a b one x y = absurd x
+one_text h (Sim cycles times) verdict.No texts a b one x y = absurd x
+one_text h (SimInOrder cycles times order) verdict.No texts a b one x y = absurd x
+one_text h Check verdict.No texts a b one x y =
     both_of_three texts (λ t. IsRefusedText t a) (λ t. IsRefusedText t b) (a ≡ b) (λ t. h.refused t a b) x y
-one_text h (Big n) verdict.No texts a b x y = absurd x
-one_text h task verdict.Undecided texts a b x y = absurd x
+one_text h (Compare budget) verdict.No texts a b one x y = absurd one
+one_text h (Big n) verdict.No texts a b one x y = absurd x
+one_text h Compile verdict.Undecided texts a b one x y = absurd x
+one_text h (Eval times) verdict.Undecided texts a b one x y = absurd x
+one_text h Synth verdict.Undecided texts a b one x y = absurd x
+one_text h Simplify verdict.Undecided texts a b one x y = absurd x
+one_text h (Tabulate name window) verdict.Undecided texts a b one x y = absurd x
+one_text h (Sim cycles times) verdict.Undecided texts a b one x y = absurd x
+one_text h (SimInOrder cycles times order) verdict.Undecided texts a b one x y = absurd x
+one_text h Check verdict.Undecided texts a b one x y = absurd x
+one_text h (Compare budget) verdict.Undecided texts a b one x y = absurd one
+one_text h (Big n) verdict.Undecided texts a b one x y = absurd x

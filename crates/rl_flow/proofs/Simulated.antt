@@ -21,7 +21,7 @@ use Rattle.rl_flow.specs.declared.verdict.Verdict.{Verdict}
 use Rattle.rl_flow.specs.declared.verdict.Verdict.TheVariants.{Done}
 use Rattle.rl_flow.specs.Task.{Task, Sim}
 use Rattle.rl_flow.specs.Levels.{level_lines, IsLevelText}
-use Rattle.rl_flow.specs.Answers.{IsText}
+use Rattle.rl_flow.specs.Answers.{IsText, HasOneText}
 use Rattle.rl_flow.specs.Joined.{digits_from, function_levels, IsSimulated}
 
 -- the digits of an output that has the levels of its value
@@ -77,7 +77,7 @@ levels_are s cycles times text m right spells e =
     }
 
 pub simulated : IsReading SpellsSource (IsNoSource 1) →
-    ((task : Task) (v : Verdict) (texts : List (List ℕ)) (a b : List ℕ) → IsText task v texts a → IsText task v texts b → a ≡ b) →
+    ((task : Task) (v : Verdict) (texts : List (List ℕ)) (a b : List ℕ) → HasOneText task → IsText task v texts a → IsText task v texts b → a ≡ b) →
     (bytes text : List ℕ) (s : Source) (cycles : ℕ) (times : List Time) → IsModuleText bytes text → SpellsSource bytes s → length times ≡ length (inputs_of s) → IsSimulated s cycles times text
 simulated reading one_text bytes text s cycles times x spells e =
     let same : x.source ≡ s = reading.one bytes x.source s x.read spells in
@@ -87,5 +87,5 @@ simulated reading one_text bytes text s cycles times x spells e =
       within = (x.short, tt);
       can = (x.compiled, x.spells, e ∙ sym (ap length right.inputs_are));
       answer = answer;
-      no_other = λ other y. one_text (Sim cycles times) Done (text ∷ []) other (function_levels s cycles times) y answer;
+      no_other = λ other y. one_text (Sim cycles times) Done (text ∷ []) other (function_levels s cycles times) tt y answer;
     }

@@ -3,14 +3,16 @@ use Rattle.std.specs.Prelude.{◌≡◌, ℕ, List, [], ◌∷◌}
 use Rattle.rl_jobs.specs.declared.fault.Fault.{Fault}
 use Rattle.rl_jobs.specs.Checked.{ThreeTexts, three_texts, IsAcceptedText, IsRefusedText, CanBeChecked, AreNotChecked}
 use Rattle.rl_jobs.specs.Compiled.{IsModuleText, CanBeCompiled, IsNotCompiled}
+use Rattle.rl_jobs.specs.Pairs.{TwoTexts, two_texts, CanBeCompared, AreNotCompared}
 use Rattle.rl_jobs.specs.Simplification.{IsSimplifiedText, CanBeSimplified, IsNotSimplified}
 use Rattle.rl_jobs.specs.Synthesised.{IsSynthesisText, CanBeSynthesised, IsNotSynthesised}
 use Rattle.rl_jobs.specs.Values.{IsValueText, CanBeValued, IsNotValued}
 use Rattle.rl_jobs.specs.Windows.{IsWindowText, CanBeTabulated, IsNotTabulated}
 use Rattle.rl_flow.specs.Counted.{big_text}
+use Rattle.rl_flow.specs.Equality.{SayEqual, SayDifferent, SayUndecided, IsSaid}
 use Rattle.rl_flow.specs.Levels.{IsLevelText, CanBeSimulated, IsNotSimulated}
 use Rattle.rl_flow.specs.Activations.{IsOrderText}
-use Rattle.rl_flow.specs.Task.{Task, Compile, Eval, Synth, Simplify, Tabulate, Sim, SimInOrder, Check, Big}
+use Rattle.rl_flow.specs.Task.{Task, Compile, Eval, Synth, Simplify, Tabulate, Sim, SimInOrder, Check, Compare, Big}
 use Rattle.rl_flow.specs.declared.verdict.Verdict.{Verdict}
 use Rattle.rl_flow.specs.declared.verdict.Verdict.TheVariants as verdict
 
@@ -24,6 +26,13 @@ abbrev pub OnOne : List (List ℕ) → (List ℕ → Type 0) → Type 0
 OnOne [] P = ⊥
 OnOne (text ∷ []) P = P text
 OnOne (text ∷ other ∷ texts) P = ⊥
+
+-- there are two texts, with this property
+abbrev pub OnTwo : List (List ℕ) → (TwoTexts → Type 0) → Type 0
+OnTwo [] P = ⊥
+OnTwo (first ∷ []) P = ⊥
+OnTwo (first ∷ second ∷ []) P = P (two_texts first second)
+OnTwo (first ∷ second ∷ other ∷ texts) P = ⊥
 
 -- there are three texts, with this property
 abbrev pub OnThree : List (List ℕ) → (ThreeTexts → Type 0) → Type 0
@@ -45,15 +54,18 @@ IsDoneText (Tabulate name window) texts answer = OnOne texts (λ bytes. IsWindow
 IsDoneText (Sim cycles times) texts answer = OnOne texts (λ bytes. IsLevelText cycles times bytes answer)
 IsDoneText (SimInOrder cycles times order) texts answer = OnOne texts (λ bytes. IsOrderText cycles times order bytes answer)
 IsDoneText Check texts answer = OnThree texts (λ three. IsAcceptedText three answer)
+IsDoneText (Compare budget) texts answer = OnTwo texts (λ two. IsSaid (SayEqual budget) two answer)
 IsDoneText (Big n) texts answer = OnNone texts (answer ≡ big_text n)
 
 -- the text by which a task is answered by no: status 1
 abbrev pub IsNoText : Task → List (List ℕ) → List ℕ → Type 0
 IsNoText Check texts answer = OnThree texts (λ three. IsRefusedText three answer)
+IsNoText (Compare budget) texts answer = OnTwo texts (λ two. IsSaid SayDifferent two answer)
 IsNoText _ texts answer = ⊥
 
 -- the text by which a task is left undecided: status 7
 abbrev pub IsUndecidedText : Task → List (List ℕ) → List ℕ → Type 0
+IsUndecidedText (Compare budget) texts answer = OnTwo texts (λ two. IsSaid (SayUndecided budget) two answer)
 IsUndecidedText _ texts answer = ⊥
 
 -- the text that a task makes of the texts of its files, with this verdict
@@ -65,13 +77,25 @@ IsText task verdict.Undecided texts answer = IsUndecidedText task texts answer
 -- a task that may be answered by no
 abbrev pub MayBeNo : Task → Type 0
 MayBeNo Check = Unit {0}
+MayBeNo (Compare budget) = Unit {0}
 MayBeNo _ = ⊥
+
+-- a task that may be left undecided
+abbrev pub MayBeOpen : Task → Type 0
+MayBeOpen (Compare budget) = Unit {0}
+MayBeOpen _ = ⊥
 
 -- the verdicts that a task may have
 abbrev pub MayHave : Task → Verdict → Type 0
 MayHave task verdict.Done = Unit {0}
 MayHave task verdict.No = MayBeNo task
-MayHave task verdict.Undecided = ⊥
+MayHave task verdict.Undecided = MayBeOpen task
+
+-- The texts fix the answer: of every task but `compare`, which may show by any tree that outputs are equal, and at any times that one
+-- differs.
+abbrev pub HasOneText : Task → Type 0
+HasOneText (Compare budget) = ⊥
+HasOneText _ = Unit {0}
 
 -- ---- refusals
 
@@ -85,6 +109,7 @@ CanBeDone (Tabulate name window) texts = OnOne texts (CanBeTabulated name window
 CanBeDone (Sim cycles times) texts = OnOne texts (CanBeSimulated times)
 CanBeDone (SimInOrder cycles times order) texts = OnOne texts (CanBeSimulated times)
 CanBeDone Check texts = OnThree texts CanBeChecked
+CanBeDone (Compare budget) texts = OnTwo texts CanBeCompared
 CanBeDone (Big n) texts = OnNone texts (Unit {0})
 
 -- This fault of the texts keeps the task from being done. Of several faults it is the first: file by file that of its spelling, then
@@ -98,4 +123,5 @@ IsCause (Tabulate name window) texts f = OnOne texts (λ bytes. IsNotTabulated n
 IsCause (Sim cycles times) texts f = OnOne texts (λ bytes. IsNotSimulated times bytes f)
 IsCause (SimInOrder cycles times order) texts f = OnOne texts (λ bytes. IsNotSimulated times bytes f)
 IsCause Check texts f = OnThree texts (λ three. AreNotChecked three f)
+IsCause (Compare budget) texts f = OnTwo texts (λ two. AreNotCompared two f)
 IsCause (Big n) texts f = ⊥

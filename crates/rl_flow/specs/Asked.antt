@@ -2,13 +2,14 @@
 use Rattle.std.specs.Prelude.{◌≡◌, ℕ, ◌+◌, ◌<◌, ◌≤◌, List, [], ◌∷◌, length, take, slice_get, Option, Some}
 use Rattle.rl_io.specs.Causes.{Rose}
 use Rattle.rl_io.specs.Files.{Files, OnFile}
-use Rattle.rl_flow.specs.Task.{Task, Sim, SimInOrder, Check, Big, Command}
+use Rattle.rl_flow.specs.Task.{Task, Sim, SimInOrder, Check, Compare, Big, Command}
 
 -- the most bytes that each file of a task may have, in the order of the files
 abbrev pub limits : Task → List ℕ
 limits (Sim cycles times) = 16777216 ∷ []
 limits (SimInOrder cycles times order) = 16777216 ∷ []
 limits Check = 1048576 ∷ 1048576 ∷ 67108864 ∷ []
+limits (Compare budget) = 1048576 ∷ 1048576 ∷ []
 limits (Big n) = []
 limits _ = 1048576 ∷ []
 

@@ -5,6 +5,7 @@ pub mod Request
 pub mod Asked
 pub mod Levels
 pub mod Activations
+pub mod Equality
 pub mod Answers
 pub mod Jobs
 pub mod Message

@@ -4,12 +4,13 @@ use Rattle.std.specs.Option.{option_map}
 use Rattle.std.specs.Str.{bytes_eq}
 use Rattle.std.specs.Str.Parse.{digits_value}
 use Rattle.rl_time.specs.declared.time.Time.{Time}
-use Rattle.rl_flow.specs.Words.{is_file_word, is_number_word, is_cycles_word, is_big_word, is_name_word, times_of, names_order, order_word}
+use Rattle.rl_flow.specs.Words.{is_file_word, is_number_word, is_cycles_word, is_big_word, is_budget_word, is_name_word, times_of, names_order, order_word}
 
 -- What is to be done with files: compile its source; evaluate its source at times; write the network of its table; write its
 -- network simplified; write the table of its network's output of this name, on times up to a number; simulate its module for
 -- some cycles, with inputs that rise at times; the same by activations in a numbered order; check by the trees of the third file
--- that the networks of the first two have equal outputs; make a large network from a number, and compile, simulate and compare
+-- that the networks of the first two have equal outputs; decide whether the networks of two files have equal outputs, with at most so
+-- many cases for each output; make a large network from a number, and compile, simulate and compare
 -- it, without a file
 pub data Task : Type 0 where
   Compile : Task
@@ -20,6 +21,7 @@ pub data Task : Type 0 where
   Sim : ℕ → List Time → Task
   SimInOrder : ℕ → List Time → ℕ → Task
   Check : Task
+  Compare : ℕ → Task
   Big : ℕ → Task
 
 -- the names of the files, in order, and what is to be done with them
@@ -79,6 +81,20 @@ check_command (a ∷ b ∷ []) = None
 check_command (a ∷ []) = None
 check_command [] = None
 
+-- nothing, or `--nodes N`: the greatest number of cases for an output, which is 100,000 where none is given
+abbrev pub budget_of : List (List ℕ) → Option ℕ
+budget_of [] = Some 100000
+budget_of (flag ∷ n ∷ []) = if bytes_eq flag (codes "--nodes") && is_budget_word n then Some (digits_value 10 n) else None
+budget_of (flag ∷ []) = None
+budget_of (a ∷ b ∷ c ∷ words) = None
+
+-- FILE FILE [--nodes N]
+unfoldable pub compare_command : List (List ℕ) → Option Command
+compare_command (first ∷ second ∷ words) =
+    if is_file_word first && is_file_word second then option_map (λ budget. record { files = first ∷ second ∷ []; task = Compare budget }) (budget_of words) else None
+compare_command (a ∷ []) = None
+compare_command [] = None
+
 -- N
 unfoldable pub big_command : List (List ℕ) → Option Command
 big_command (n ∷ []) = if is_big_word n then Some (record { files = []; task = Big (digits_value 10 n) }) else None
@@ -92,10 +108,12 @@ of_one_file command (file ∷ words) =
 of_one_file command [] = None
 
 -- The command of the words, if they are one: `compile FILE`, `eval FILE TIME..`, `synth FILE`, `simplify FILE`,
--- `tabulate FILE NAME WINDOW`, `sim FILE CYCLES TIME.. [--order N]`, `check FILE FILE FILE` or `big N`.
+-- `tabulate FILE NAME WINDOW`, `sim FILE CYCLES TIME.. [--order N]`, `check FILE FILE FILE`,
+-- `compare FILE FILE [--nodes N]` or `big N`.
 unfoldable pub command_of : List (List ℕ) → Option Command
 command_of (command ∷ words) =
     if bytes_eq command (codes "check") then check_command words
+    else if bytes_eq command (codes "compare") then compare_command words
     else if bytes_eq command (codes "big") then big_command words
     else of_one_file command words
 command_of [] = None

@@ -71,6 +71,10 @@ order_word words = number_word 1000000000 (slice_index_or words (length words - 
 abbrev pub is_big_word : List ℕ → Bool
 is_big_word word = is_number_word 16384 word && nat_le 1 (digits_value 10 word)
 
+-- a word that writes a budget: 1 to 1,000,000
+abbrev pub is_budget_word : List ℕ → Bool
+is_budget_word word = is_number_word 1000000 word && nat_le 1 (digits_value 10 word)
+
 -- the words as lists of bytes
 abbrev pub texts_of : List (String Global) → List (List ℕ)
 texts_of words = map string_bytes words

@@ -8,12 +8,12 @@ ghost use Rattle.rl_jobs.specs.declared.fault.Fault.{Fault};
 ghost use Rattle.rl_jobs.specs.declared.source.Source.{Source};
 ghost use Rattle.rl_jobs.specs.Sources.{SpellsSource, inputs_of};
 ghost use Rattle.rl_flow.specs.declared.verdict.Verdict.{Verdict};
-ghost use Rattle.rl_flow.specs.declared.verdict.Verdict.TheVariants.{Done};
+ghost use Rattle.rl_flow.specs.declared.verdict.Verdict.TheVariants.{Done, No};
 ghost use Rattle.rl_flow.specs.Asked.{limits};
 ghost use Rattle.rl_flow.specs.Activations.{IsOrderText};
 ghost use Rattle.rl_flow.specs.Levels.{IsLevelText, IsNoModule, IsNotSimulated};
-ghost use Rattle.rl_flow.specs.Task.{Task, Compile};
-ghost use Rattle.rl_flow.specs.Answers.{CanBeDone, IsCause, IsText};
+ghost use Rattle.rl_flow.specs.Task.{Task, Compile, Simplify, Check, Compare};
+ghost use Rattle.rl_flow.specs.Answers.{CanBeDone, HasOneText, IsCause, IsText};
 ghost use Rattle.rl_flow.specs.Joined.{IsSimulated};
 
 use event_sim::laws::one_run;
@@ -55,9 +55,9 @@ pub fn one_order_text()
     one_run();
 }
 
-/// For each task and verdict, texts have at most one answer.
+/// For each task and verdict, texts have at most one answer; of every task but `compare`, which may show what it says in several ways.
 pub fn one_text()
-    ensures { (task : Task) (v : Verdict) (texts : List (List ℕ)) (a b : List ℕ) → IsText task v texts a → IsText task v texts b → a ≡ b }
+    ensures { (task : Task) (v : Verdict) (texts : List (List ℕ)) (a b : List ℕ) → HasOneText task → IsText task v texts a → IsText task v texts b → a ≡ b }
 {
     laws::one_module_text();
     laws::one_value_text();
@@ -79,6 +79,20 @@ pub fn compiled_modules_are_simulated()
     one_text();
 }
 
+/// What `compare` writes where all outputs are equal is accepted by `check` as trees of the same two networks.
+pub fn equal_networks_are_accepted()
+    ensures { (budget : ℕ) (first second text : List ℕ) → IsText (Compare budget) Done (first ∷ second ∷ []) text →
+        (answer : List ℕ) × IsText Check Done (first ∷ second ∷ text ∷ []) answer }
+{}
+
+/// `compare` never says of a network and its simplified text that they differ.
+pub fn simplified_networks_do_not_differ()
+    ensures { (budget : ℕ) (bytes text answer : List ℕ) → IsText Simplify Done (bytes ∷ []) text →
+        IsText (Compare budget) No (bytes ∷ text ∷ []) answer → ⊥ }
+{
+    laws::reading_networks();
+}
+
 /// For each task, texts have at most one fault for which they are refused, and none where the task can be done.
 pub fn one_fault()
     ensures one { (task : Task) (texts : List (List ℕ)) (f g : Fault) → IsCause task texts f → IsCause task texts g → f ≡ g }
@@ -90,6 +104,7 @@ pub fn one_fault()
     laws::simplifying();
     laws::tabulating();
     laws::checking();
+    laws::pairing();
     simulating();
 }
 
@@ -103,5 +118,6 @@ pub fn done_or_fault()
     laws::simplifying();
     laws::tabulating();
     laws::checking();
+    laws::pairing();
     simulating();
 }

@@ -7,6 +7,7 @@ mod big;
 mod comparing;
 mod compiling;
 mod counts;
+mod equality;
 pub mod laws;
 mod loading;
 mod message;

@@ -5,7 +5,7 @@ ghost use Rattle.rl_io.specs.Files.{Files};
 ghost use Rattle.rl_jobs.specs.Sources.{FailsBy};
 ghost use Rattle.rl_jobs.specs.declared.fault.Fault.{Fault};
 ghost use Rattle.rl_flow.specs.Words.{texts_of};
-ghost use Rattle.rl_flow.specs.Task.{Big, Check, Command, command_of};
+ghost use Rattle.rl_flow.specs.Task.{Big, Check, Compare, Command, command_of};
 ghost use Rattle.rl_flow.specs.Request.{task, IsSmall};
 ghost use Rattle.rl_flow.specs.Asked.{limits, asked, shelf_state, AreWithin, IsTooLong};
 ghost use Rattle.rl_flow.specs.Answers.{IsText, IsCause, CanBeDone, MayHave};
@@ -13,6 +13,7 @@ ghost use Rattle.rl_flow.specs.Outcome.{OnTexts, Answers, Leaves, HasCause, IsRe
 ghost use Rattle.rl_flow.specs.declared.refusal.Refusal.TheVariants as why;
 
 use crate::big::big_text;
+use crate::equality::equality;
 use crate::laws::one_fault;
 use crate::loading::load_files;
 use crate::order::sim_in_order;
@@ -44,6 +45,7 @@ fn limits(request: &Request<'_>) -> &'static [u64]
         | Request::Tabulate(_, _) => &[1_048_576],
         Request::Sim(_, _) | Request::SimInOrder(_, _, _) => &[16_777_216],
         Request::Check => &[1_048_576, 1_048_576, 67_108_864],
+        Request::Compare(_) => &[1_048_576, 1_048_576],
         Request::Big(_) => &[],
     }
 }
@@ -57,6 +59,17 @@ fn only(texts: &[Vec<u8>]) -> &[u8]
         unreachable!();
     };
     text.as_slice()
+}
+
+/// The two texts.
+fn two(texts: &[Vec<u8>]) -> (&[u8], &[u8])
+    requires { length texts.now ≡ 2 }
+    ensures { map (λ t. t.items) texts.now ≡ result.0.now ∷ result.1.now ∷ [] }
+{
+    let [first, second] = texts else {
+        unreachable!();
+    };
+    (first.as_slice(), second.as_slice())
 }
 
 /// The three texts.
@@ -88,6 +101,19 @@ fn check_answer(alloc: Global, texts: &[Vec<u8>]) -> Result<Answer, JobError>
         verdict,
         text: checked.text,
     })
+}
+
+/// Whether the networks of the two texts have equal outputs.
+fn compare_answer(alloc: Global, budget: u32, texts: &[Vec<u8>]) -> Result<Answer, JobError>
+    requires count { length texts.now ≡ 2 }
+    requires short { AreWithin (limits (Compare budget)) (map (λ t. t.items) texts.now) }
+    requires some { 1 ≤ budget }
+    requires few { budget ≤ 1000000 }
+    ensures text { IfOk result (λ a. IsText (Compare budget) a.verdict (map (λ t. t.items) texts.now) a.text.items) }
+    ensures cause { IfErr result (FailsBy (IsCause (Compare budget) (map (λ t. t.items) texts.now))) }
+{
+    let (first, second) = two(texts);
+    equality(alloc, first, second, budget)
 }
 
 /// What is counted of the large network that is made from a number. There are no texts.
@@ -130,6 +156,7 @@ fn answer_to(alloc: Global, request: &Request<'_>, texts: &[Vec<u8>]) -> Result<
             Ok(Answer::done(text))
         }
         Request::Check => check_answer(alloc, texts),
+        Request::Compare(budget) => compare_answer(alloc, *budget, texts),
         Request::Big(n) => big_answer(alloc, *n, texts),
     }
 }

@@ -9,9 +9,9 @@ use crate::status::Status;
 pub enum Verdict {
     /// It is done.
     Done,
-    /// The answer is no: a tree isn't valid.
+    /// The answer is no: a tree isn't valid, or an output differs.
     No,
-    /// The question stays open. No command of this version gives it.
+    /// The question stays open: the budget is spent.
     Undecided,
 }
 

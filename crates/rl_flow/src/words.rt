@@ -3,7 +3,7 @@ ghost use Rattle.std.specs.List.{list_all};
 ghost use Rattle.std.specs.Option.{option_map};
 ghost use Rattle.net_model.specs.Early.{IsAtMost};
 ghost use Rattle.rl_flow.specs.Words.{is_file_word, number_word, time_word, times_of, is_letter, is_name_byte, is_name_word, names_order, order_word, texts_of};
-ghost use Rattle.rl_flow.specs.Task.{alone, eval_task, tabulate_task, timed_task, sim_task, task_of, check_command, big_command, of_one_file, command_of};
+ghost use Rattle.rl_flow.specs.Task.{alone, eval_task, tabulate_task, timed_task, sim_task, task_of, check_command, budget_of, compare_command, big_command, of_one_file, command_of};
 ghost use Rattle.rl_flow.specs.Asked.{limits};
 ghost use Rattle.rl_flow.specs.Request.{task, IsSmall};
 
@@ -227,6 +227,47 @@ fn check_command(words: &[String]) -> Option<Command<'_>>
     }
 }
 
+/// The greatest number of cases for an output: that of the words `--nodes N`, or 100,000 where no words are left.
+fn budget_of(words: &[String]) -> Option<u32>
+    ensures budget { result ≡ budget_of (texts_of words.now) }
+    ensures some { IfSome result (λ budget. 1 ≤ budget) }
+    ensures small { IfSome result (λ budget. budget ≤ 1000000) }
+{
+    match words {
+        [] => Some(100_000),
+        [flag, number] if flag.as_str() == "--nodes" => {
+            let number = number_word(number.as_str(), 1_000_000)?;
+            if number == 0 {
+                return None;
+            }
+            Some(number as u32)
+        }
+        _ => None,
+    }
+}
+
+/// Parses the words `FILE FILE [--nodes N]` of the command `compare`.
+#[tactic(auto, unfolding(crate::specs::Task::compare_command))]
+fn compare_command(words: &[String]) -> Option<Command<'_>>
+    ensures command { option_map (λ c. record { files = texts_of c.files.now; task = task c.request }) result
+        ≡ compare_command (texts_of words.now) }
+    ensures small { IfSome result (λ c. IsSmall c.request) }
+    ensures each { IfSome result (λ c. length (limits (task c.request)) ≡ length c.files.now) }
+    ensures few { IfSome result (λ c. length c.files.now ≤ 3) }
+{
+    let [first, second, rest @ ..] = words else {
+        return None;
+    };
+    if !is_file_word(first.as_str()) || !is_file_word(second.as_str()) {
+        return None;
+    }
+    let budget = budget_of(rest)?;
+    Some(Command {
+        files: &words[..2],
+        request: Request::Compare(budget),
+    })
+}
+
 /// Parses the word `N` of the command `big`.
 #[tactic(auto, unfolding(crate::specs::Task::big_command))]
 fn big_command(words: &[String]) -> Option<Command<'_>>
@@ -285,6 +326,8 @@ pub fn parse(words: &[String]) -> Option<Command<'_>>
     };
     if command.as_str() == "check" {
         check_command(rest)
+    } else if command.as_str() == "compare" {
+        compare_command(rest)
     } else if command.as_str() == "big" {
         big_command(rest)
     } else {

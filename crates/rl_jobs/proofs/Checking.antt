@@ -223,7 +223,7 @@ Decide = (premises : List Assume) (pair : Pair) (items : List Item) → NameInpu
     AreEqualUnder premises (length pair.first.inputs) (output_function pair.first pair.place) (output_function pair.second pair.place)
 
 -- valid trees for all outputs show that all outputs are equal
-all_equal : Decide → (c : Claim) → Agree c → AreValidBefore c (length (trees_of c)) → (x : List Time) → length x ≡ length (first_of c).inputs →
+pub all_equal : Decide → (c : Claim) → Agree c → AreValidBefore c (length (trees_of c)) → (x : List Time) → length x ≡ length (first_of c).inputs →
     space_time_function (first_of c) x ≡ space_time_function (second_of c) x
 all_equal decide c agree valid x e =
     let outputs : length (first_of c).outputs ≡ length (second_of c).outputs =

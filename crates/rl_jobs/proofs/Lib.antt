@@ -7,3 +7,4 @@ pub mod Agreement
 pub mod Checking
 pub mod OneSimplified
 pub mod SimpleNetwork
+pub mod Pairing

@@ -6,3 +6,4 @@ pub mod Compiled
 pub mod Readings
 pub mod Checked
 pub mod Simplification
+pub mod Pairs

@@ -63,7 +63,7 @@ fn is_at(names: &[Name], place: usize, name: &Name) -> bool
 }
 
 /// The first place, from 1, where two lists of names differ: also one that only one of them has.
-fn first_difference(a: &[Name], b: &[Name]) -> Option<u64>
+pub(crate) fn first_difference(a: &[Name], b: &[Name]) -> Option<u64>
     ensures place { IfSome result (DifferAt a.now b.now) }
     ensures none { result ≡ None → a.now ≡ b.now }
 {

@@ -4,8 +4,10 @@ ghost use Rattle.std.specs.Prelude.{◌≡◌, ℕ, List, length};
 ghost use Rattle.rl_time.specs.declared.time.Time.{Time};
 ghost use Rattle.net_lang.specs.Spelling.{SpellsNetwork};
 ghost use Rattle.refutation.specs.Spelling.{SpellsTrees};
-ghost use Rattle.rl_jobs.specs.Checked.{ThreeTexts, AreNoTrees, SpellClaim, Agree, AreNotChecked, IsAcceptedText, IsRefusedText};
+ghost use Rattle.net_model.specs.Value.{space_time_function};
+ghost use Rattle.rl_jobs.specs.Checked.{ThreeTexts, Claim, first_of, second_of, trees_of, AreValidBefore, AreNoTrees, SpellClaim, Agree, AreNotChecked, IsAcceptedText, IsRefusedText};
 ghost use Rattle.rl_jobs.specs.Compiled.{HasFewBits, IsModuleText, IsNotCompiled};
+ghost use Rattle.rl_jobs.specs.Pairs.{SpellPair, HaveSameNames, AreNotCompared};
 ghost use Rattle.rl_jobs.specs.Readings.{IsReading};
 ghost use Rattle.rl_jobs.specs.Simplification.{IsSimplifiedText, IsNotSimplified};
 ghost use Rattle.rl_jobs.specs.Sources.{IsNoNetwork, SpellsSoundTable, IsNoTable, SpellsSource, IsNoSource, inputs_of};
@@ -19,7 +21,7 @@ use net_lang;
 use refutation;
 use rl_text::{a_first_word_or_none, one_first_word};
 use term_store::no_two_places_alike;
-use tree_check::valid_or_fault;
+use tree_check::{valid_or_fault, valid_trees_decide};
 
 /// Reading networks, in the file of any number.
 pub fn reading_networks()
@@ -147,6 +149,21 @@ pub fn checking()
 {
     reading_networks();
     reading_trees();
+}
+
+/// Networks of the same names whose outputs all have valid trees have equal outputs at all times.
+pub fn valid_trees_show_equality()
+    ensures { (c : Claim) → Agree c → AreValidBefore c (length (trees_of c)) → (x : List Time) → length x ≡ length (first_of c).inputs →
+        space_time_function (first_of c) x ≡ space_time_function (second_of c) x }
+{
+    valid_trees_decide();
+}
+
+/// What `compare` can be done with, and why not.
+pub fn pairing()
+    ensures { IsReading (λ texts p. SpellPair texts p × HaveSameNames p) AreNotCompared }
+{
+    reading_networks();
 }
 
 /// Three texts are accepted or refused with at most one text, and never both.

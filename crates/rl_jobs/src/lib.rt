@@ -11,6 +11,7 @@ pub mod eval;
 mod fault;
 pub mod laws;
 mod names;
+pub mod pairs;
 mod reading;
 pub mod simplification;
 mod source;

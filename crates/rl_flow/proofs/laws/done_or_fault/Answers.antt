@@ -11,4 +11,5 @@ returns c =
       tabulating = c.tabulating.ensures;
       simulating = c.simulating.ensures;
       checking = c.checking.ensures;
+      pairing = c.pairing.ensures;
     })

@@ -11,6 +11,7 @@ returns-clause-one c =
       tabulating = c.tabulating.ensures;
       simulating = c.simulating.ensures;
       checking = c.checking.ensures;
+      pairing = c.pairing.ensures;
     })
 
 pub returns-clause-none : goal.returns-clause-none
@@ -23,4 +24,5 @@ returns-clause-none c =
       tabulating = c.tabulating.ensures;
       simulating = c.simulating.ensures;
       checking = c.checking.ensures;
+      pairing = c.pairing.ensures;
     })
