@@ -170,7 +170,7 @@ def missing_tool(command):
     words.whitespace_split = True
     begins = True
     for word in words:
-        if word[-1:] in ("|", ";", "&", "(") and set(word) <= set("|;&()<>"):
+        if word[-1:] in ("|", ";", "&", "(") and set(word) <= set("|;&()"):
             begins = True
         elif begins and "=" not in word:
             if word != "racelog" and shutil.which(word) is None:

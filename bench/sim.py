@@ -7,10 +7,10 @@ PROGRAM is the built racelog. For each SIZE (1,024, 4,096 and 16,384 operators w
 bench.py and simulates the module for 64 and for 100,000 cycles; then two modules of the largest SIZE: `toggles`, in which
 every register and every wire changes in each cycle, and `long`, one shift register of 65,536 bits.
 
-It prints the least seconds of five runs (of one, where that takes over 5 s), the most memory in MiB, and memory in bytes for each
-byte of the module's text. For a peer it prints the seconds to build and to run the same module with the same inputs, and whether
-all levels are the same. verilator is run with a C++ main of its own at -O3, which prints the levels of each cycle. A peer that
-takes over LIMIT seconds to build or to run is given as `-`.
+It prints the least seconds of five runs (of one, where that takes over 5 s), the same with `--order 0`, the most memory in MiB,
+and memory in bytes for each byte of the module's text. For a peer it prints the seconds to build and to run the same module with
+the same inputs, and whether all levels are the same. verilator is run with a C++ main of its own at -O3, which prints the levels
+of each cycle. A peer that takes over LIMIT seconds to build or to run is given as `-`.
 """
 import os
 import shutil
@@ -32,9 +32,10 @@ def toggles(size):
     lines = ["module race(clk, rst, in_a, out_y);\n" + ports[:-1]]
     lines += ["  wire w%d;" % k for k in range(wires)]
     lines += ["  reg r%d;" % k for k in range(regs)]
-    lines += ["  assign out_y = w%d;" % (wires - 1), "  assign w0 = ~r0;"]
+    lines += ["  assign w0 = ~r0;"]
     lines += ["  assign w%d = ~w%d & ~r%d | ~w%d & ~r%d;" % (k, k - 1, k, k - 1, k) if k % 2 else
               "  assign w%d = ~r%d & ~w%d;" % (k, k, k - 1) for k in range(1, wires)]
+    lines += ["  assign out_y = w%d;" % (wires - 1)]
     lines += ["  always @(posedge clk) if (rst) r%d <= 1'b0; else r%d <= ~r%d;" % (k, k, k) for k in range(regs)]
     return "\n".join(lines + ["endmodule", ""])
 
@@ -119,8 +120,9 @@ def peer(name, words, program, folder, ours, cycles):
 def measure(program, label, module, inputs, outputs, rises, cycles, folder):
     levels = os.path.join(folder, "levels")
     seconds, memory = bench.run([program, "sim", module, str(cycles)] + rises, levels)
+    ordered, _ = bench.run([program, "sim", module, str(cycles)] + rises + ["--order", "0"], os.path.join(folder, "ordered"))
     size = os.path.getsize(module)
-    line = "%-14s %9d %7d  %8.4f  %s  %5.1f" % (label, size, cycles, seconds, bench.shown(memory), memory * 1048576 / size)
+    line = "%-14s %9d %7d  %8.4f  %8.4f  %s  %5.1f" % (label, size, cycles, seconds, ordered, bench.shown(memory), memory * 1048576 / size)
     if shutil.which("iverilog"):
         with open(os.path.join(folder, "bench.v"), "w") as to:
             to.write(test_bench(inputs, outputs, rises, cycles))
@@ -137,7 +139,7 @@ def measure(program, label, module, inputs, outputs, rises, cycles, folder):
 def main():
     program = os.path.abspath(sys.argv[1])
     sizes = [int(word) for word in sys.argv[2:]] or [1024, 4096, 16384]
-    print("module             bytes  cycles   seconds     MiB  MiB a MiB of text")
+    print("module             bytes  cycles   seconds   order 0     MiB  MiB a MiB of text")
     with tempfile.TemporaryDirectory() as folder:
         module = os.path.join(folder, "module.v")
         network = os.path.join(folder, "network")
