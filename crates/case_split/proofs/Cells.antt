@@ -1,17 +1,15 @@
 -- The facts of a leaf say what all facts say.
 use Rattle.std.proofs.Common.{◌≡◌, ℕ, zero, suc, ◌+◌, ◌*◌, ◌≤◌, ◌<◌, List, [], ◌∷◌, ◌++◌, length, take, refl, sym, ap, subst, ◌∙◌, arith, Bool, true, false, ◌⊎◌, inl, inr, eq-eqb, get_or-set_same, get_or-set_other, get_or, to_z, of_z, w32}
-use Rattle.std.specs.Prelude.{ℤ, pos, ◌≤ℤ◌, ◌<ℤ◌, int_le, nat_eq, ◌&&◌, ◌||◌, slice_index_or, slice_set, Option, Some, None}
+use Rattle.std.specs.Prelude.{ℤ, pos, ◌≤ℤ◌, int_le, nat_eq, ◌&&◌, ◌||◌, slice_index_or, slice_set, Option, Some, None}
 use Rattle.std.specs.List.{All, AllByRecursion}
 use Rattle.std.proofs.lemmas.Bool.{false≢true, or_cases, cases_eq, cases_lt}
 use Rattle.std.proofs.lemmas.Option.{none-some}
 use Rattle.std.proofs.lemmas.List.{length-set, get_or_past, take_more}
-use Rattle.std.proofs.lemmas.Int.{ints, to_z-of_z}
+use Rattle.std.proofs.lemmas.Int.{ints}
 use Rattle.refutation.specs.declared.item.Fact.{Fact}
-use Rattle.refutation.specs.Cases.{Path}
 use Rattle.refutation.specs.Limits.{IsSmallBound}
 use Rattle.tree_check.specs.Valid.{is_right, fact_says, listed}
 use Rattle.tree_check.proofs.Chains.{and_true, at_most, equal}
-use Rattle.case_split.specs.Decided.{AreRight}
 use Rattle.case_split.specs.Task.{IsFact}
 use Rattle.case_split.specs.Gathered.{fact_at, IsOn, IsLeastPlace, IsLeastOf, cell_at, AreLeastPlaces, facts_in, AreGathered}
 

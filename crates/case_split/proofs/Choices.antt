@@ -1,9 +1,7 @@
 -- The form of a node, by what it waits for.
-use Rattle.std.proofs.Common.{◌≡◌, ℕ, zero, suc, ◌+◌, ◌≤◌, ◌<◌, List, [], ◌∷◌, ◌++◌, length, refl, sym, ap, subst, ◌∙◌, arith, true, false, ◌⊎◌, inl, inr, slice_index_or}
-use Rattle.std.specs.List.{All}
+use Rattle.std.proofs.Common.{◌≡◌, ℕ, ◌<◌, List, length, refl, sym, ap, subst, ◌∙◌, true, inl, inr}
 use Rattle.term_store.specs.declared.node.Node.{Node}
 use Rattle.term_store.specs.declared.node.Node.TheVariants as node
-use Rattle.term_store.specs.Tree as t
 use Rattle.term_store.specs.Tree.{Tree}
 use Rattle.term_store.specs.Nodes.{node_at, IsNodes, IsNodeOver}
 use Rattle.term_store.specs.Reach.{IsOperand}
@@ -14,7 +12,6 @@ use Rattle.tree_check.specs.declared.form.Form.{Form}
 use Rattle.tree_check.specs.declared.form.Form.TheVariants.{Never, Plus, Undecided}
 use Rattle.tree_check.specs.Forms.{Known, form_at, is_decided, min_form, max_form, lt_form, inc_form}
 use Rattle.case_split.specs.declared.comparison.Choice.{Choice}
-use Rattle.case_split.specs.declared.comparison.Step.{Step}
 use Rattle.case_split.specs.declared.comparison.Step.TheVariants.{Settled, Chosen}
 use Rattle.case_split.specs.Live.{Compares}
 use Rattle.case_split.specs.Steps.{choice, min_step, max_step, lt_step, step, node_form, step_form}

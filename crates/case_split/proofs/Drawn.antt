@@ -1,5 +1,5 @@
 -- Times that are drawn are early.
-use Rattle.std.proofs.Common.{◌≤◌, arith}
+use Rattle.std.proofs.Common.{arith}
 use Rattle.rl_time.specs.declared.time.Time.{Time}
 use Rattle.rl_time.specs.declared.time.Time.TheVariants.{At, Never}
 use Rattle.net_model.specs.Early.{IsAtMost}

@@ -5,7 +5,7 @@ use Rattle.std.proofs.lemmas.Bool.{false≢true, cases_Bool, or_cases}
 use Rattle.std.proofs.lemmas.Bool.Decides.{nat_tests}
 use Rattle.std.proofs.lemmas.Int.{ints, by_lt_z}
 use Rattle.refutation.specs.declared.item.Fact.{Fact}
-use Rattle.refutation.specs.Path.{MeetsAll, runs, sum_of}
+use Rattle.refutation.specs.Path.{runs, sum_of}
 use Rattle.refutation.specs.Cases.{Path}
 use Rattle.diff_bounds.specs.Bounds.{CanBeMet, Implies, IsLeast}
 use Rattle.diff_bounds.proofs.Cycles.{solved, least_is, IsSolved, AtMost, Within}

@@ -1,27 +1,24 @@
 -- Assumptions that can be met, and facts that show what they imply.
 use Rattle.std.proofs.Common.{add-one, ◌≡◌, ℕ, ◌+◌, ◌≤◌, ◌<◌, take, List, [], ◌∷◌, ◌++◌, length, refl, sym, ap, subst, ◌∙◌, arith, Bool, true, false, ◌⊎◌, inl, inr, get_or, zero, suc}
-use Rattle.std.specs.Prelude.{ℤ, pos, negsuc, neg_ℤ, ◌-ℤ◌, ◌≤ℤ◌, ◌<ℤ◌, ◌+ℤ◌, int_le, nat_eq, nat_lt, ◌&&◌, ◌||◌, Option, Some, None, option_map, IfSome}
+use Rattle.std.specs.Prelude.{ℤ, pos, negsuc, neg_ℤ, ◌-ℤ◌, ◌≤ℤ◌, ◌<ℤ◌, int_le, nat_eq, nat_lt, ◌&&◌, ◌||◌, Option, Some, option_map, IfSome}
 use Rattle.std.proofs.lemmas.Bool.{ne_eqb}
-use Rattle.std.specs.List.{All, AllByRecursion, list_any}
+use Rattle.std.specs.List.{AllByRecursion}
 use Rattle.std.specs.Bool.{MatchBool}
 use Rattle.spike_eval.specs.Premises.{NameInputs}
 use Rattle.std.proofs.lemmas.Bool.{false≢true}
 use Rattle.std.proofs.lemmas.Int.{ints}
 use Rattle.std.proofs.lemmas.Bool.Decides.{nat_tests}
 use Rattle.net_model.specs.declared.assume.Assume.{Assume}
-use Rattle.refutation.specs.declared.assumption.Assumption.{Assumption}
 use Rattle.refutation.specs.declared.item.Fact.{Fact}
-use Rattle.refutation.specs.Path.{Meets, MeetsAll, at, assumption, runs, sum_of, shows, is_negative}
+use Rattle.refutation.specs.Path.{MeetsAll, at, assumption, runs, sum_of}
 use Rattle.refutation.specs.Cases.{Path}
-use Rattle.refutation.specs.Limits.{IsSmallChain, IsSmallFact}
-use Rattle.diff_bounds.specs.Bounds.{System, CanBeMet, Implies, IsLeast, IsSolution, integers}
-use Rattle.diff_bounds.proofs.Least.{and_true, equal, int_true, chain_shows, meets_more, at_new, length_more, runs_more, lt_of, lt_is}
+use Rattle.diff_bounds.specs.Bounds.{System, Implies, IsLeast, IsSolution, integers}
+use Rattle.diff_bounds.proofs.Least.{and_true, equal, int_true, chain_shows, meets_more, lt_of}
 use Rattle.diff_bounds.proofs.Ending.{and_is}
 use Rattle.tree_check.specs.Valid.{root, is_right, fact_says, listed}
 use Rattle.tree_check.specs.Forms.{compared}
 use Rattle.case_split.specs.declared.comparison.Comparison.{Comparison}
 use Rattle.case_split.specs.Decided.{AreRight, IsOpen, IsPossible}
-use Rattle.case_split.specs.Stages.{its_fact}
 use Rattle.case_split.specs.Steps.{width, yes_assumption, no_assumption}
 use Rattle.case_split.specs.Task.{IsFact}
 

@@ -1,6 +1,6 @@
 -- What an end of a branch shows.
-use Rattle.std.proofs.Common.{◌≡◌, ℕ, zero, suc, ◌+◌, ◌<◌, ◌≤◌, List, [], ◌∷◌, ◌++◌, length, refl, subst, sym, ap, ◌∙◌, arith, Bool, true, false, true≢false, get_or, lt-ltb, inl, inr, to_z, of_z, w64}
-use Rattle.std.specs.Prelude.{ℤ, pos, neg_ℤ, ◌-ℤ◌, ◌+ℤ◌, ◌≤ℤ◌, nat_eq, nat_le, nat_lt, ◌&&◌, ◌||◌, slice_index_or, Option, Some, None, if◌then◌else◌}
+use Rattle.std.proofs.Common.{◌≡◌, ℕ, zero, suc, ◌<◌, ◌≤◌, List, [], ◌∷◌, ◌++◌, length, refl, subst, sym, ap, ◌∙◌, arith, Bool, true, false, true≢false, get_or, lt-ltb, inl, inr, to_z, of_z, w64}
+use Rattle.std.specs.Prelude.{ℤ, pos, neg_ℤ, ◌-ℤ◌, ◌≤ℤ◌, nat_eq, nat_le, nat_lt, ◌&&◌, ◌||◌, Option, Some, None, if◌then◌else◌}
 use Rattle.std.specs.List.{All, AllByRecursion, list_all}
 use Rattle.std.specs.Bool.{MatchBool}
 use Rattle.std.specs.Prelude.{Result, Ok, Err, IfOk, OnOk}
@@ -11,30 +11,29 @@ use Rattle.std.proofs.lemmas.Option.{none-some}
 use Rattle.std.proofs.lemmas.Int.{ints}
 use Rattle.std.proofs.lemmas.List.Elements.{All-append}
 use Rattle.refutation.specs.declared.item.Fact.{Fact}
-use Rattle.refutation.specs.declared.item.Item.TheVariants as item
 use Rattle.refutation.specs.Limits.{IsSmallFact}
 use Rattle.refutation.specs.Path.{MeetsAll, assumption}
 use Rattle.refutation.specs.Cases.{Path}
 use Rattle.diff_bounds.specs.Bounds.{IsSolution, integers}
 use Rattle.diff_bounds.proofs.Kept.{meets_fewer, meets_last}
 use Rattle.term_store.specs.declared.node.Term.{Term}
-use Rattle.term_store.specs.Tree.{Tree, value}
+use Rattle.term_store.specs.Tree.{value}
 use Rattle.term_store.specs.Trees.{tree}
 use Rattle.tree_check.specs.declared.form.Form.{Form}
 use Rattle.tree_check.specs.declared.form.Form.TheVariants as form
 use Rattle.tree_check.specs.Forms.{Known, compared, form_at, is_decided, AreEqualForms}
-use Rattle.tree_check.specs.Valid.{fact_says, listed, names_inputs, is_right}
+use Rattle.tree_check.specs.Valid.{fact_says, listed}
 use Rattle.spike_eval.specs.Causal.{numbers}
 use Rattle.tree_check.proofs.Chains.{equal}
 use Rattle.tree_check.proofs.Forms.{Holds}
 use Rattle.case_split.specs.TermForms.{term_form, IsWithinKnown, HoldsAt}
 use Rattle.case_split.specs.Decided.{AreRight, IsPossible}
-use Rattle.case_split.specs.Stages.{Stage, Stages}
-use Rattle.case_split.specs.Task.{Task, IsTask, IsStage, IsFact}
+use Rattle.case_split.specs.Stages.{Stages}
+use Rattle.case_split.specs.Task.{Task, IsFact}
 use Rattle.case_split.specs.Gathered.{AreGathered}
-use Rattle.case_split.specs.Leaves.{IsWhole, IsFormOver, AreFormsApart, IsEnding, AreApart, IsValidItem}
+use Rattle.case_split.specs.Leaves.{IsWhole, IsFormOver, AreFormsApart, IsEnding, AreApart}
 use Rattle.case_split.specs.declared.comparison.Comparison.{Comparison}
-use Rattle.case_split.specs.declared.ending.Ending.TheVariants.{Equal, Different}
+use Rattle.case_split.specs.declared.ending.Ending.TheVariants.{Equal}
 use Rattle.case_split.proofs.Stays.{forms_stay, forms_are_small, forms_name_inputs, right_holds}
 use Rattle.case_split.proofs.Values.{term_holds, facts_sound, forms_differ, IsOver}
 
@@ -150,8 +149,8 @@ over_is n (form.Plus i c) h = h.0
 over_is n form.Undecided h = tt
 
 module _ (task : Task) (s : Stages) (first second : Term) (w : IsWhole task s first second) where
-  abbrev path : Path
-  path = s.now.path
+  abbrev own_path : Path
+  own_path = s.now.path
 
   abbrev form_of : ℕ → Form
   form_of place = form_at s.now.forms place
@@ -163,26 +162,26 @@ module _ (task : Task) (s : Stages) (first second : Term) (w : IsWhole task s fi
   decided place lt = w.stage.decided place form.Never (let h = w.whole in omega (arith, lt, h))
 
   -- the form stays as facts come
-  form_stays : (new : List Fact) → AreAfter path s.inputs s.now.facts new → (place : ℕ) → place < length task.nodes → term_form (listed new) (tree task.nodes place) ≡ form_of place
+  form_stays : (new : List Fact) → AreAfter own_path s.inputs s.now.facts new → (place : ℕ) → place < length task.nodes → term_form (listed new) (tree task.nodes place) ≡ form_of place
   form_stays new after place lt =
       ap (λ (fs : List Fact). term_form (listed fs) (tree task.nodes place)) after.1
-      ∙ (forms_stay path w.stage.possible s.now.facts (s.now.facts ++ after.0) w.stage.right (right_append path s.now.facts after.0 w.stage.right after.2) (within_append s.now.facts after.0)
+      ∙ (forms_stay own_path w.stage.possible s.now.facts (s.now.facts ++ after.0) w.stage.right (right_append own_path s.now.facts after.0 w.stage.right after.2) (within_append s.now.facts after.0)
       (tree task.nodes place) (subst (λ (f : Form). is_decided f ≡ true) (form_is place lt) (decided place lt))
       ∙ sym (form_is place lt))
 
   -- all facts are facts of the inputs
-  pub facts_are : (new : List Fact) → AreAfter path s.inputs s.now.facts new → All (IsFact s.inputs) new
+  pub facts_are : (new : List Fact) → AreAfter own_path s.inputs s.now.facts new → All (IsFact s.inputs) new
   facts_are new after =
       subst (λ (fs : List Fact). All (IsFact s.inputs) fs) (sym after.1)
       (All-append (IsFact s.inputs) s.now.facts after.0 (subst (λ (n : ℕ). All (IsFact n) s.now.facts) w.inputs w.stage.facts) after.3)
 
-  new_right : (new : List Fact) → AreAfter path s.inputs s.now.facts new → AreRight path new
-  new_right new after = subst (AreRight path) (sym after.1) (right_append path s.now.facts after.0 w.stage.right after.2)
+  new_right : (new : List Fact) → AreAfter own_path s.inputs s.now.facts new → AreRight own_path new
+  new_right new after = subst (AreRight own_path) (sym after.1) (right_append own_path s.now.facts after.0 w.stage.right after.2)
 
-  pub equal_end : (new read kept : List Fact) (m : ℕ) → read ≡ new → m ≡ s.inputs → AreAfter path s.inputs s.now.facts new → AreEqualForms (listed new) (form_of first.0) (form_of second.0) → AreGathered m read kept →
-      IsEnding task.inputs path (tree task.nodes first.0) (tree task.nodes second.0) (Equal kept)
+  pub equal_end : (new read kept : List Fact) (m : ℕ) → read ≡ new → m ≡ s.inputs → AreAfter own_path s.inputs s.now.facts new → AreEqualForms (listed new) (form_of first.0) (form_of second.0) → AreGathered m read kept →
+      IsEnding task.inputs own_path (tree task.nodes first.0) (tree task.nodes second.0) (Equal kept)
   equal_end new read kept m e d after equal gathered = (
-    (names_all task.inputs kept of_inputs, record { right = gathered.right path (subst (AreRight path) (sym e) (new_right new after)); equal = equal_forms }),
+    (names_all task.inputs kept of_inputs, record { right = gathered.right own_path (subst (AreRight own_path) (sym e) (new_right new after)); equal = equal_forms }),
     record { few = gathered.few; small = small_all task.inputs kept of_inputs },
   )
     where
@@ -201,8 +200,8 @@ module _ (task : Task) (s : Stages) (first second : Term) (w : IsWhole task s fi
           (subst (λ (f : Form). AreEqualForms (listed new) f (term_form (listed kept) (tree task.nodes second.0))) (sym (kept_form first.0 (first_within task s first second w)))
           (subst (λ (g : Form). AreEqualForms (listed new) (form_of first.0) g) (sym (kept_form second.0 (second_within task s first second w))) equal))
 
-  pub different_end : (later : Path) (ns : List ℕ) (m : ℕ) → m ≡ s.inputs → (rest : Path) × (later ≡ path ++ rest) → IsSolution m later ns → ((x : ℕ → ℤ) → MeetsAll x later → AreFormsApart x (form_of first.0) (form_of second.0)) →
-      AreApart task.inputs path (tree task.nodes first.0) (tree task.nodes second.0) ns
+  pub different_end : (later : Path) (ns : List ℕ) (m : ℕ) → m ≡ s.inputs → (rest : Path) × (later ≡ own_path ++ rest) → IsSolution m later ns → ((x : ℕ → ℤ) → MeetsAll x later → AreFormsApart x (form_of first.0) (form_of second.0)) →
+      AreApart task.inputs own_path (tree task.nodes first.0) (tree task.nodes second.0) ns
   different_end later ns m d rest solution apart = record {
     long = long;
     small = below_at ns (λ k lt. solution.small k (let l = solution.long in omega (arith, lt, l)));
@@ -215,8 +214,8 @@ module _ (task : Task) (s : Stages) (first second : Term) (w : IsWhole task s fi
       long : length ns ≡ task.inputs
       long = solution.long ∙ (d ∙ sym w.inputs)
 
-      met : MeetsAll (integers ns) path
-      met = meets_fewer (integers ns) path rest.0 (subst (MeetsAll (integers ns)) rest.1 solution.meets)
+      met : MeetsAll (integers ns) own_path
+      met = meets_fewer (integers ns) own_path rest.0 (subst (MeetsAll (integers ns)) rest.1 solution.meets)
 
       over : (place : ℕ) → place < length task.nodes → IsOver (length ns) (form_of place)
       over place lt = subst (λ (n : ℕ). IsOver n (form_of place)) (sym (long ∙ w.inputs)) (over_is s.inputs (form_of place) (form_over task s first second w place lt))
@@ -224,7 +223,7 @@ module _ (task : Task) (s : Stages) (first second : Term) (w : IsWhole task s fi
       held : (place : ℕ) → place < length task.nodes → Holds (numbers ns) (form_of place) (value (numbers ns) (tree task.nodes place))
       held place lt =
           subst (λ (f : Form). Holds (numbers ns) f (value (numbers ns) (tree task.nodes place))) (sym (form_is place lt))
-          (term_holds ns (listed s.now.facts) (facts_sound ns path s.now.facts (subst (λ (n : ℕ). All (IsFact n) s.now.facts) (sym long) w.stage.facts) w.stage.right met) (tree task.nodes place))
+          (term_holds ns (listed s.now.facts) (facts_sound ns own_path s.now.facts (subst (λ (n : ℕ). All (IsFact n) s.now.facts) (sym long) w.stage.facts) w.stage.right met) (tree task.nodes place))
 
 -- ---- which forms are apart
 

@@ -1,5 +1,5 @@
 -- Items so far, which lead to the paths that are pending.
-use Rattle.std.proofs.Common.{◌≡◌, ◌∙◌, ap, add-one, zero, suc, ◌+◌, ℕ, List, [], ◌∷◌, ◌++◌, length, refl, sym, subst, append_assoc, ◌⊎◌, inl, inr, replicate}
+use Rattle.std.proofs.Common.{◌≡◌, ◌∙◌, ap, add-one, zero, suc, ◌+◌, ℕ, List, [], ◌∷◌, ◌++◌, length, refl, sym, subst, append_assoc, inr, replicate}
 use Rattle.std.proofs.lemmas.List.{append-nil}
 use Rattle.refutation.specs.declared.item.Item.{Item}
 use Rattle.refutation.specs.declared.item.Item.TheVariants as item

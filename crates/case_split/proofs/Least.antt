@@ -1,6 +1,6 @@
 -- No valid tree for two outputs has fewer items than one whose splits are all due.
 use Rattle.std.proofs.Common.{◌≡◌, ℕ, zero, suc, ◌+◌, ◌*◌, ◌<◌, ◌≤◌, List, [], ◌∷◌, ◌++◌, length, map, refl, subst, sym, ap, ◌∙◌, arith, Bool, true, false, true≢false, ◌⊎◌, inl, inr}
-use Rattle.std.specs.Prelude.{ℤ, pos, neg_ℤ, ◌-ℤ◌, ◌+ℤ◌, ◌≤ℤ◌, nat_eq, nat_le, int_le, ◌&&◌, ◌||◌, IsTrue, Option, Some, None, if◌then◌else◌, slice_index_or}
+use Rattle.std.specs.Prelude.{ℤ, pos, neg_ℤ, ◌-ℤ◌, ◌≤ℤ◌, nat_eq, nat_le, int_le, IsTrue, Option, Some, None, if◌then◌else◌, slice_index_or}
 use Rattle.std.specs.List.{AllByRecursion, list_all, list_any, IsDistinct}
 use Rattle.std.proofs.lemmas.Bool.{false≢true, cases_Bool, or_cases, ne_eqb, eqb-true}
 use Rattle.std.proofs.lemmas.Bool.Decides.{nat_tests}
@@ -9,34 +9,33 @@ use Rattle.std.proofs.lemmas.Int.{ints, by_lt_z}
 use Rattle.std.proofs.lemmas.Map.Steps.{length-le_from_distinct_below}
 use Rattle.std.proofs.Math.Dec.{eqb}
 use Rattle.net_model.specs.declared.assume.Assume.{Assume}
-use Rattle.refutation.specs.declared.assumption.Assumption.{Assumption}
 use Rattle.refutation.specs.declared.item.Item.{Item}
 use Rattle.refutation.specs.declared.item.Item.TheVariants as item
 use Rattle.refutation.specs.declared.item.Fact.{Fact}
-use Rattle.refutation.specs.Path.{Meets, MeetsAll, assumption, runs, sum_of, shows}
-use Rattle.refutation.specs.Cases.{Path, EachOnPath, OneOnPath, below, yes_side, no_side}
-use Rattle.diff_bounds.specs.Bounds.{CanBeMet, Implies, IsLeast}
-use Rattle.diff_bounds.proofs.Cycles.{solved, least_is, IsSolved, AtMost, Within}
+use Rattle.refutation.specs.Path.{MeetsAll, assumption}
+use Rattle.refutation.specs.Cases.{Path, EachOnPath, OneOnPath, yes_side, no_side}
+use Rattle.diff_bounds.specs.Bounds.{CanBeMet, Implies}
+use Rattle.diff_bounds.proofs.Cycles.{solved}
 use Rattle.diff_bounds.proofs.Least.{int_true, meets_more, none_meets}
 use Rattle.diff_bounds.proofs.Ending.{and_is}
 use Rattle.diff_bounds.proofs.Kept.{meets_fewer, meets_last}
-use Rattle.term_store.specs.Tree.{Tree, Never, Input, Min, Max, Lt, Inc}
+use Rattle.term_store.specs.Tree.{Tree, Never}
 use Rattle.term_store.specs.Terms.{tree_in, network_trees}
-use Rattle.term_store.specs.Subterms.{is_among, all_subterms, subterms}
+use Rattle.term_store.specs.Subterms.{is_among, all_subterms}
 use Rattle.term_store.proofs.Parts.{IsIn, all_among, among_all, in_self}
 use Rattle.tree_check.specs.declared.form.Form.{Form}
 use Rattle.tree_check.specs.declared.form.Form.TheVariants as form
 use Rattle.tree_check.specs.Forms.{Known, compared, chosen, min_form, max_form, lt_form, output_form, is_decided, AreEqualForms}
-use Rattle.tree_check.specs.Valid.{Pair, IsValid, IsValidItem, root, listed, fact_says, is_right}
+use Rattle.tree_check.specs.Valid.{Pair, IsValid, IsValidItem, root, listed}
 use Rattle.tree_check.proofs.Chains.{one_side, at_most, equal, and_true}
-use Rattle.case_split.specs.TermForms.{term_form, IsWithinKnown, HoldsAt}
+use Rattle.case_split.specs.TermForms.{term_form, HoldsAt}
 use Rattle.case_split.specs.Decided.{AreRight, IsOpen, IsUndecided}
 use Rattle.case_split.specs.Live.{pair_terms, Compares, IsDue, IsDueItem, IsUnsettledItem, splits, opened}
 use Rattle.case_split.proofs.Stays.{stays, right_holds, inside_undecided}
-use Rattle.case_split.proofs.Due.{implied_chain, shown_fact, within_last, holds_append, HasForm, HasDue, form_or_due}
+use Rattle.case_split.proofs.Due.{implied_chain, shown_fact, within_last, holds_append, form_or_due}
 use Rattle.case_split.proofs.TermForms.{network_form}
 use Rattle.case_split.proofs.Implied.{root_is_possible}
-use Rattle.case_split.proofs.Judged.{no_at, right_append, within_append}
+use Rattle.case_split.proofs.Judged.{no_at, within_append}
 
 -- ---- both sides of an open comparison can be met
 

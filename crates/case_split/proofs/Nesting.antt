@@ -3,7 +3,6 @@ use Rattle.std.proofs.Common.{◌≡◌, ℕ, ◌≤◌, List, [], ◌∷◌, �
 use Rattle.std.proofs.lemmas.List.{take-append-le, length-take-le, take-append-drop, append-nil}
 use Rattle.std.specs.List.{AllByRecursion}
 use Rattle.refutation.specs.declared.item.Fact.{Fact}
-use Rattle.refutation.specs.declared.assumption.Assumption.{Assumption}
 use Rattle.refutation.specs.Cases.{Path}
 use Rattle.tree_check.specs.declared.form.Form.{Form}
 use Rattle.diff_bounds.specs.Pressing.{IsNear}

@@ -1,13 +1,13 @@
 -- Stages of the walk: a place more has its form, or facts come.
-use Rattle.std.proofs.Common.{◌≡◌, ℕ, zero, suc, ◌+◌, ◌*◌, ◌≤◌, ◌<◌, List, [], ◌∷◌, ◌++◌, length, drop, refl, sym, ap, subst, ◌∙◌, arith, Bool, true, false, ◌⊎◌, inl, inr, length-append, append_assoc}
+use Rattle.std.proofs.Common.{◌≡◌, ℕ, zero, suc, ◌+◌, ◌≤◌, ◌<◌, List, [], ◌∷◌, ◌++◌, length, drop, refl, sym, ap, subst, ◌∙◌, arith, Bool, true, false, ◌⊎◌, inl, inr}
 use Rattle.std.specs.Prelude.{if◌then◌else◌, ◌||◌, Option, Some}
-use Rattle.std.specs.List.{All, list_any}
+use Rattle.std.specs.List.{All}
 use Rattle.std.proofs.lemmas.List.Elements.{All-push, All-append, All-from_get_or}
 use Rattle.refutation.specs.declared.item.Fact.{Fact}
 use Rattle.refutation.specs.Cases.{Path}
 use Rattle.term_store.specs.declared.node.Node.{Node}
 use Rattle.term_store.specs.declared.node.Node.TheVariants as node
-use Rattle.term_store.specs.Nodes.{node_at, IsNodes, IsNodeOver}
+use Rattle.term_store.specs.Nodes.{node_at, IsNodeOver}
 use Rattle.term_store.specs.Reach.{IsOperand}
 use Rattle.term_store.specs.Places.{is_join_node}
 use Rattle.term_store.specs.Trees.{tree}
@@ -18,8 +18,8 @@ use Rattle.tree_check.specs.Room.{IsWithin}
 use Rattle.tree_check.specs.Valid.{listed, fact_says}
 use Rattle.case_split.specs.declared.comparison.Choice.{Choice}
 use Rattle.case_split.specs.declared.comparison.Step.{Step}
-use Rattle.case_split.specs.declared.comparison.Step.TheVariants.{Settled, Chosen}
-use Rattle.case_split.specs.Decided.{AreRight, IsPossible}
+use Rattle.case_split.specs.declared.comparison.Step.TheVariants.{Chosen}
+use Rattle.case_split.specs.Decided.{AreRight}
 use Rattle.case_split.specs.Stages.{Stage, settled}
 use Rattle.case_split.specs.Steps.{step, step_form}
 use Rattle.case_split.specs.Task.{Task, IsTask, IsStage, IsFact, joins}

@@ -1,33 +1,27 @@
 -- The two sides of a split.
-use Rattle.std.proofs.Common.{◌≡◌, ℕ, zero, suc, ◌+◌, ◌*◌, ◌≤◌, ◌<◌, List, [], ◌∷◌, ◌++◌, length, drop, refl, sym, ap, subst, ◌∙◌, arith, Bool, true, false, ◌⊎◌, inl, inr, length-append, append_assoc}
-use Rattle.std.specs.Prelude.{ℤ, pos, neg_ℤ, ◌-ℤ◌, ◌≤ℤ◌, ◌&&◌, ◌||◌, nat_eq, nat_lt, nat_le, if◌then◌else◌, ◌+ℤ◌, int_le, Option, Some, None}
-use Rattle.std.specs.List.{All, AllByRecursion}
+use Rattle.std.proofs.Common.{◌≡◌, ℕ, suc, ◌+◌, ◌≤◌, ◌<◌, List, [], ◌∷◌, ◌++◌, length, drop, refl, sym, ap, subst, ◌∙◌, arith, Bool, true, false, append_assoc}
+use Rattle.std.specs.Prelude.{ℤ, pos, neg_ℤ, ◌-ℤ◌, ◌≤ℤ◌, ◌&&◌, ◌||◌, nat_eq, nat_lt, nat_le, if◌then◌else◌, ◌+ℤ◌, int_le, Some, None}
 use Rattle.std.proofs.lemmas.Bool.{ne_eqb}
 use Rattle.std.proofs.lemmas.Int.{ints}
 use Rattle.std.proofs.lemmas.Bool.Decides.{nat_tests}
 use Rattle.std.proofs.lemmas.List.Elements.{All-push}
 use Rattle.refutation.specs.declared.assumption.Assumption.{Assumption}
 use Rattle.refutation.specs.declared.item.Fact.{Fact}
-use Rattle.refutation.specs.Path.{MeetsAll, at, assumption, runs, sum_of, shows}
+use Rattle.refutation.specs.Path.{at, assumption, runs}
 use Rattle.refutation.specs.Cases.{Path}
-use Rattle.refutation.specs.Limits.{IsSmallBound}
 use Rattle.diff_bounds.specs.Bounds.{Implies}
 use Rattle.diff_bounds.proofs.Least.{and_true, int_true, at_new, length_more, runs_more, lt_is}
 use Rattle.diff_bounds.proofs.Ending.{and_is}
-use Rattle.term_store.specs.Nodes.{node_at}
 use Rattle.term_store.specs.Trees.{tree}
 use Rattle.tree_check.specs.declared.form.Form.{Form}
-use Rattle.tree_check.specs.Forms.{Known, compared, chosen, form_at, is_decided}
+use Rattle.tree_check.specs.Forms.{compared, is_decided}
 use Rattle.tree_check.specs.Valid.{is_right, fact_says, listed, root}
 use Rattle.case_split.specs.declared.comparison.Choice.{Choice}
-use Rattle.case_split.specs.declared.comparison.Comparison.{Comparison}
-use Rattle.case_split.specs.declared.comparison.Step.{Step}
-use Rattle.case_split.specs.declared.comparison.Step.TheVariants.{Settled, Chosen}
+use Rattle.case_split.specs.declared.comparison.Step.TheVariants.{Chosen}
 use Rattle.case_split.specs.Decided.{AreRight, IsOpen, IsPossible}
-use Rattle.case_split.specs.Stages.{Stage, its_fact, assumed, settled}
-use Rattle.case_split.specs.Steps.{step, step_form, width, yes_assumption, no_assumption}
+use Rattle.case_split.specs.Stages.{Stage, its_fact, assumed}
+use Rattle.case_split.specs.Steps.{step_form, width, yes_assumption, no_assumption}
 use Rattle.case_split.specs.Task.{Task, IsTask, IsStage, IsFact, joins}
-use Rattle.case_split.specs.TermForms.{term_form}
 use Rattle.case_split.specs.Walk.{joins_left, IsAt, IsWaiting}
 use Rattle.case_split.proofs.Implied.{right_more, not_true, facts_imply, says_at_most}
 use Rattle.case_split.proofs.Stays.{forms_stay}

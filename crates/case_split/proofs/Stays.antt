@@ -1,7 +1,6 @@
 -- Decided forms stay what they are where more is known, and what they name and count is the term's.
-use Rattle.std.proofs.Common.{◌≡◌, ℕ, zero, suc, ◌+◌, ◌<◌, ◌≤◌, List, [], ◌∷◌, ◌++◌, length, refl, subst, sym, ap, ◌∙◌, arith, Bool, true, false, ◌⊎◌, inl, inr}
-use Rattle.std.specs.Prelude.{ℤ, pos, ◌-ℤ◌, ◌≤ℤ◌, nat_eq, nat_le, ◌&&◌, ◌||◌, IsTrue, Option, Some, None, if◌then◌else◌, max}
-use Rattle.std.specs.List.{AllByRecursion, list_any}
+use Rattle.std.proofs.Common.{◌≡◌, ℕ, zero, suc, ◌+◌, ◌<◌, ◌≤◌, List, [], ◌∷◌, length, refl, subst, sym, ap, ◌∙◌, arith, Bool, true, false, inl, inr}
+use Rattle.std.specs.Prelude.{ℤ, pos, ◌-ℤ◌, ◌≤ℤ◌, nat_eq, nat_le, ◌&&◌, IsTrue, Option, Some, None, if◌then◌else◌, max}
 use Rattle.std.proofs.lemmas.Bool.{false≢true, or_cases}
 use Rattle.std.proofs.lemmas.Option.{none-some}
 use Rattle.std.proofs.lemmas.Int.{ints}
@@ -9,12 +8,11 @@ use Rattle.std.proofs.lemmas.Bool.Decides.{nat_tests}
 use Rattle.refutation.specs.declared.item.Fact.{Fact}
 use Rattle.refutation.specs.Path.{MeetsAll}
 use Rattle.refutation.specs.Cases.{Path}
-use Rattle.diff_bounds.specs.Bounds.{CanBeMet}
 use Rattle.term_store.specs.Tree.{Tree, Never, Input, Min, Max, Lt, Inc, span}
 use Rattle.tree_check.specs.declared.form.Form.{Form}
 use Rattle.tree_check.specs.declared.form.Form.TheVariants as form
 use Rattle.tree_check.specs.Forms.{Known, compared, chosen, min_form, max_form, lt_form, inc_form, is_decided}
-use Rattle.tree_check.specs.Valid.{is_right, fact_says, listed}
+use Rattle.tree_check.specs.Valid.{fact_says, listed}
 use Rattle.tree_check.proofs.Chains.{and_true, at_most, equal, shown}
 use Rattle.term_store.specs.declared.node.Node.{Node}
 use Rattle.term_store.specs.declared.node.Node.TheVariants as node

@@ -1,6 +1,6 @@
 -- The terms of two outputs are a task.
 use Rattle.std.proofs.Common.{◌≡◌, ℕ, zero, suc, ◌+◌, ◌<◌, ◌≤◌, Bool, true, false, true≢false, ◌&&◌, List, [], ◌∷◌, ◌++◌, length, map, filter, take, refl, ap, sym, ◌∙◌, subst, arith, inl, inr, ◌⊎◌, if◌then◌else◌, get_or}
-use Rattle.std.specs.Prelude.{slice_index_or, max}
+use Rattle.std.specs.Prelude.{slice_index_or}
 use Rattle.std.specs.List.{AllByRecursion, All}
 use Rattle.std.proofs.Math.Seq.{take-suc, take-length}
 use Rattle.std.proofs.lemmas.List.{length-append}
@@ -20,8 +20,8 @@ use Rattle.term_store.specs.Subterms.{all_subterms, is_among, distinct_subterms,
 use Rattle.term_store.specs.Reach.{is_reached, IsReached}
 use Rattle.term_store.specs.Compacted.{reached_trees}
 use Rattle.term_store.specs.Places.{places, reach_marks, is_marked, is_join_node, is_marked_with, tree_by_places}
-use Rattle.term_store.proofs.ListedPlaces.{at_listed, filter_same, count, count_next, one_if, length_places}
-use Rattle.term_store.proofs.Parts.{IsIn, or_either, same_is, in_from_among, among_all, all_among, among_append}
+use Rattle.term_store.proofs.ListedPlaces.{at_listed, filter_same, count, count_next, one_if}
+use Rattle.term_store.proofs.Parts.{IsIn, or_either, same_is, among_all, all_among}
 use Rattle.term_store.specs.Subterms.{same_tree}
 use Rattle.term_store.proofs.FewTerms.{among_distinct, no_more, more_left, more_right, network_terms}
 use Rattle.term_store.proofs.Counted.{follows, counts_right}
@@ -31,7 +31,7 @@ use Rattle.term_store.proofs.Put.{let_tree, tree_more}
 use Rattle.tree_check.specs.Valid.{Pair, outputs}
 use Rattle.case_split.specs.Live.{pair_terms}
 use Rattle.case_split.specs.Parted.{IsPart}
-use Rattle.case_split.specs.Task.{Task, IsTask, joins}
+use Rattle.case_split.specs.Task.{IsTask, joins}
 
 -- ---- the operators of a store that the places reach
 

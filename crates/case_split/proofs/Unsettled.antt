@@ -1,7 +1,7 @@
 -- The three ends of the walk.
-use Rattle.std.proofs.Common.{◌≡◌, ℕ, zero, suc, ◌+◌, ◌*◌, ◌^◌, ◌≤◌, ◌<◌, List, [], ◌∷◌, ◌++◌, length, map, refl, sym, ap, subst, ◌∙◌, arith, Bool, true, false, ◌⊎◌, inl, inr, replicate, slice_index_or}
+use Rattle.std.proofs.Common.{◌≡◌, ℕ, suc, ◌+◌, ◌^◌, ◌≤◌, ◌<◌, List, [], ◌∷◌, ◌++◌, length, refl, sym, ap, subst, ◌∙◌, arith, Bool, true, false, ◌⊎◌, inl, inr, replicate, slice_index_or}
 use Rattle.std.specs.Prelude.{◌||◌, IsTrue, Option, None, pos, ℤ}
-use Rattle.std.specs.List.{All, AllByRecursion, list_any}
+use Rattle.std.specs.List.{AllByRecursion}
 use Rattle.std.proofs.lemmas.Nat.{pow_pos}
 use Rattle.std.proofs.Math.Nat.{pow-suc}
 use Rattle.std.proofs.lemmas.List.Folds.{list_any-append}
@@ -10,10 +10,9 @@ use Rattle.refutation.specs.declared.item.Item.TheVariants as item
 use Rattle.refutation.specs.declared.item.Fact.{Fact}
 use Rattle.refutation.specs.Path.{MeetsAll}
 use Rattle.refutation.specs.Cases.{Path, EachOnPath, OneOnPath}
-use Rattle.refutation.specs.Limits.{IsSmallItem, KeepsLimits}
+use Rattle.refutation.specs.Limits.{KeepsLimits}
 use Rattle.diff_bounds.specs.Bounds.{integers}
 use Rattle.diff_bounds.proofs.Kept.{meets_fewer}
-use Rattle.term_store.specs.Tree as t
 use Rattle.term_store.specs.Tree.{Tree}
 use Rattle.term_store.specs.Subterms.{is_among, subterms, all_subterms, same_tree}
 use Rattle.term_store.specs.Trees.{tree, term}
@@ -28,7 +27,7 @@ use Rattle.case_split.specs.declared.ending.Ending.{Ending}
 use Rattle.case_split.specs.declared.ending.Ending.TheVariants as ending
 use Rattle.case_split.specs.Steps.{width, yes_assumption, no_assumption}
 use Rattle.term_store.specs.declared.node.Term.{Term}
-use Rattle.case_split.specs.Live.{Compares, IsDue, IsDueItem, IsUnsettledItem, splits, opened}
+use Rattle.case_split.specs.Live.{IsDue, IsDueItem, IsUnsettledItem, opened}
 use Rattle.case_split.specs.Stages.{Stage, assumed}
 use Rattle.case_split.specs.Task.{Task, IsTask, IsStage, joins}
 use Rattle.case_split.specs.TermForms.{term_form}
@@ -40,7 +39,7 @@ use Rattle.case_split.proofs.Leading.{leads_end, open_items}
 use Rattle.case_split.proofs.Reaching.{says_more, says_last}
 use Rattle.case_split.proofs.Splitting.{one_fewer}
 use Rattle.case_split.proofs.Stays.{forms_stay, part_undecided}
-use Rattle.case_split.proofs.Walking.{IsWalk, paths, rooms, output_term, terms, walk_ends_one, walk_splits, is_due, rooms_most, splits_append, no_splits}
+use Rattle.case_split.proofs.Walking.{IsWalk, paths, output_term, terms, walk_ends_one, walk_splits, is_due, rooms_most, splits_append, no_splits}
 
 -- all branches have ended
 pub walk_equal : (task : Task) (items : List Item) (budget : ℕ) → IsWalk task items [] → opened items ≤ budget → budget ≤ 1000000

@@ -1,6 +1,6 @@
 -- Terms have the times of their forms, and different forms make different times.
-use Rattle.std.proofs.Common.{◌≡◌, ℕ, zero, suc, ◌+◌, ◌<◌, ◌≤◌, List, [], ◌∷◌, ◌++◌, length, refl, subst, sym, ap, ◌∙◌, arith, Bool, true, false, true≢false, get_or}
-use Rattle.std.specs.Prelude.{ℤ, pos, ◌-ℤ◌, ◌+ℤ◌, ◌≤ℤ◌, nat_eq, ◌&&◌, slice_index_or}
+use Rattle.std.proofs.Common.{◌≡◌, ℕ, zero, suc, ◌+◌, ◌<◌, List, [], ◌∷◌, length, refl, sym, ap, ◌∙◌, arith, Bool, true, false, true≢false, get_or}
+use Rattle.std.specs.Prelude.{pos, nat_eq, ◌&&◌}
 use Rattle.std.specs.List.{All, AllByRecursion}
 use Rattle.std.proofs.lemmas.Bool.{false≢true}
 use Rattle.std.proofs.lemmas.Int.{ints}
@@ -17,7 +17,7 @@ use Rattle.term_store.specs.Tree.{Tree, Never, Input, Min, Max, Lt, Inc, value}
 use Rattle.tree_check.specs.declared.form.Form.{Form}
 use Rattle.tree_check.specs.declared.form.Form.TheVariants as form
 use Rattle.tree_check.specs.Forms.{Known, is_decided}
-use Rattle.tree_check.specs.Valid.{listed, fact_says}
+use Rattle.tree_check.specs.Valid.{listed}
 use Rattle.tree_check.proofs.Chains.{and_true, equal}
 use Rattle.tree_check.proofs.Forms.{IsSound, Holds, number_at, min_holds, max_holds, lt_holds, inc_holds, plus_zero}
 use Rattle.case_split.specs.TermForms.{term_form, IsTimeOf}
@@ -26,7 +26,7 @@ use Rattle.case_split.specs.Task.{IsFact}
 use Rattle.case_split.specs.Gathered.{fact_at}
 use Rattle.case_split.specs.Leaves.{AreFormsApart}
 use Rattle.case_split.proofs.Stays.{right_holds}
-use Rattle.case_split.proofs.Cells.{Saying, listed_says}
+use Rattle.case_split.proofs.Cells.{listed_says}
 
 module _ (ns : List ℕ) (known : Known) (sound : IsSound ns known) where
   pub term_holds : (t : Tree) → Holds (numbers ns) (term_form known t) (value (numbers ns) t)

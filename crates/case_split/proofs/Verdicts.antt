@@ -1,16 +1,14 @@
 -- What is found of two terms is found of the outputs.
-use Rattle.std.proofs.Common.{◌≡◌, ℕ, zero, suc, ◌+◌, ◌<◌, ◌≤◌, List, [], ◌∷◌, ◌++◌, length, map, refl, subst, sym, ap, ◌∙◌, arith, true, ◌⊎◌, inl, inr}
-use Rattle.std.specs.Prelude.{ℤ, pos, ◌-ℤ◌, ◌≤ℤ◌, slice_index_or}
-use Rattle.std.specs.List.{All, AllByRecursion}
+use Rattle.std.proofs.Common.{◌≡◌, ℕ, zero, suc, ◌≤◌, List, [], ◌∷◌, ◌++◌, length, map, refl, subst, sym, ap, ◌∙◌, arith}
+use Rattle.std.specs.List.{All}
 use Rattle.std.proofs.lemmas.Int.{ints}
 use Rattle.rl_time.specs.declared.time.Time.{Time}
-use Rattle.rl_time.specs.declared.time.Time.TheVariants as time
 use Rattle.net_model.specs.declared.assume.Assume.{Assume}
 use Rattle.net_model.specs.Formula.{Net}
 use Rattle.net_model.specs.Value.{time_at}
 use Rattle.spike_eval.specs.Causal.{numbers}
 use Rattle.spike_eval.specs.Outputs.{output_function}
-use Rattle.spike_eval.specs.Premises.{NameInputs, MeetsPremises}
+use Rattle.spike_eval.specs.Premises.{NameInputs, MeetsPremises, AreEqualUnder}
 use Rattle.refutation.specs.declared.item.Item.{Item}
 use Rattle.refutation.specs.declared.item.Item.TheVariants as item
 use Rattle.refutation.specs.Path.{MeetsAll}
@@ -21,16 +19,18 @@ use Rattle.term_store.specs.Terms.{tree_in, network_trees}
 use Rattle.term_store.specs.Subterms.{join_count}
 use Rattle.term_store.proofs.TermValues.{values_are}
 use Rattle.tree_check.specs.declared.form.Form.{Form}
-use Rattle.tree_check.specs.Forms.{Known, output_form, AreEqualForms}
+use Rattle.tree_check.specs.Forms.{output_form, AreEqualForms}
 use Rattle.tree_check.specs.Valid.{Pair, IsValid, root, listed}
 use Rattle.tree_check.specs.Valid as tree_check
 use Rattle.tree_check.proofs.Forms.{number_at}
 use Rattle.case_split.specs.TermForms.{term_form}
 use Rattle.case_split.specs.Live.{pair_terms}
 use Rattle.case_split.specs.Leaves.{IsValidItem, AreApart}
-use Rattle.case_split.specs.Verdicts.{IsDifference, IsSmallNumber, IsEqualTree, IsUndecidedTree, IsDecision}
+use Rattle.case_split.specs.Verdicts.{IsDifference, IsSmallNumber, IsEqualTree, IsUndecidedTree, IsRight, IsEqual, IsDecision}
 use Rattle.case_split.specs.declared.ending.Decision.{Decision}
 use Rattle.case_split.specs.declared.ending.Decision.TheVariants as decision
+use Rattle.case_split.specs.declared.verdict.Verdict.{Verdict}
+use Rattle.case_split.specs.declared.verdict.Verdict.TheVariants as verdict
 use Rattle.case_split.proofs.Least.{due_is_least, live_is_less}
 use Rattle.case_split.proofs.TermForms.{network_form}
 
@@ -127,3 +127,14 @@ decision_of n m p q budget premises a b c e d nm pq same h =
     (subst (λ p. IsDecision n premises c e p budget d) pq
     (subst (λ t. IsDecision n premises c t p budget d) (ap (λ ts. tree_in ts 1) same)
     (subst (λ t. IsDecision n premises t b p budget d) (ap (λ ts. tree_in ts 0) same) h)))
+
+-- outputs that a valid tree shows to be equal have no difference
+pub no_difference : (premises : List Assume) (pair : Pair) (times : List Time) → AreEqualUnder premises (length pair.first.inputs) (output_function pair.first pair.place) (output_function pair.second pair.place) → IsDifference premises pair times → ⊥
+no_difference premises pair times equal d = d.differ (equal times d.long d.meet)
+
+-- where a valid tree fits the budget, the verdict is that they are equal
+pub complete : (premises : List Assume) (pair : Pair) (budget : ℕ) (items : List Item) → AreEqualUnder premises (length pair.first.inputs) (output_function pair.first pair.place) (output_function pair.second pair.place) →
+    IsValid premises pair items → length items ≤ budget → (v : Verdict) → IsRight premises pair budget v → IsEqual v
+complete premises pair budget items equal valid few (verdict.Equal tree) right = tt
+complete premises pair budget items equal valid few (verdict.Different times) right = no_difference premises pair times.items equal right
+complete premises pair budget items equal valid few (verdict.Undecided tree) right = let more = right.too_little items valid in absurd (omega (arith, few, more))

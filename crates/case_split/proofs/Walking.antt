@@ -1,19 +1,15 @@
 -- The walk: what the items so far show, where stages are pending.
-use Rattle.std.proofs.Common.{◌≡◌, ℕ, zero, suc, ◌+◌, ◌*◌, ◌^◌, ◌≤◌, ◌<◌, List, [], ◌∷◌, ◌++◌, length, map, drop, refl, sym, ap, subst, ◌∙◌, arith, Bool, true, false, ◌⊎◌, inl, inr, length-append, append_assoc, replicate, slice_index_or}
-use Rattle.std.specs.Prelude.{ℤ, pos, neg_ℤ, ◌-ℤ◌, ◌&&◌, ◌||◌, nat_lt, IsTrue}
-use Rattle.std.specs.List.{All, AllByRecursion, list_any}
+use Rattle.std.proofs.Common.{◌≡◌, ℕ, zero, suc, ◌+◌, ◌^◌, ◌≤◌, List, [], ◌∷◌, ◌++◌, length, map, refl, sym, ap, subst, ◌∙◌, arith, length-append, replicate, slice_index_or}
+use Rattle.std.specs.Prelude.{nat_lt, IsTrue}
+use Rattle.std.specs.List.{AllByRecursion}
 use Rattle.std.proofs.lemmas.Int.{ints}
 use Rattle.std.proofs.lemmas.Nat.{pow_pos}
 use Rattle.std.proofs.Math.Nat.{pow-suc}
-use Rattle.std.proofs.lemmas.List.Folds.{list_any-append}
 use Rattle.refutation.specs.declared.item.Item.{Item}
 use Rattle.refutation.specs.declared.item.Item.TheVariants as item
 use Rattle.refutation.specs.declared.item.Fact.{Fact}
-use Rattle.refutation.specs.Path.{MeetsAll}
-use Rattle.refutation.specs.Cases.{Path, EachOnPath, OneOnPath, below}
-use Rattle.refutation.specs.Limits.{IsSmallItem, KeepsLimits}
-use Rattle.diff_bounds.specs.Bounds.{integers}
-use Rattle.diff_bounds.proofs.Kept.{meets_fewer}
+use Rattle.refutation.specs.Cases.{Path, EachOnPath, OneOnPath}
+use Rattle.refutation.specs.Limits.{IsSmallItem}
 use Rattle.diff_bounds.proofs.Least.{lt_is}
 use Rattle.diff_bounds.proofs.Ending.{and_is}
 use Rattle.term_store.specs.declared.node.Node.{Node}
@@ -21,26 +17,21 @@ use Rattle.term_store.specs.declared.node.Term.{Term}
 use Rattle.term_store.specs.Tree.{Tree}
 use Rattle.term_store.specs.Nodes.{node_at}
 use Rattle.term_store.specs.Places.{tree_by_places}
-use Rattle.term_store.specs.Subterms.{is_among, subterms, all_subterms, same_tree}
+use Rattle.term_store.specs.Subterms.{is_among, all_subterms}
 use Rattle.term_store.specs.Trees.{tree, trees_at, term}
 use Rattle.term_store.proofs.Counted.{follows}
-use Rattle.tree_check.specs.declared.form.Form.{Form}
-use Rattle.tree_check.specs.declared.form.Form.TheVariants.{Never, Plus, Undecided}
-use Rattle.tree_check.specs.Forms.{Known, compared, is_decided}
-use Rattle.tree_check.specs.Valid.{root, listed}
+use Rattle.tree_check.specs.Valid.{root}
 use Rattle.case_split.specs.declared.comparison.Choice.{Choice}
-use Rattle.case_split.specs.Decided.{AreRight, IsUndecided}
-use Rattle.case_split.specs.Leaves.{IsValidItem, AreApart}
+use Rattle.case_split.specs.Leaves.{IsValidItem}
 use Rattle.case_split.specs.Live.{Compares, IsDue, IsDueItem, IsUnsettledItem, splits, opened}
 use Rattle.case_split.specs.Stages.{Stage, assumed}
-use Rattle.case_split.specs.Steps.{step, step_form, width, yes_assumption, no_assumption}
+use Rattle.case_split.specs.Steps.{width, yes_assumption, no_assumption}
 use Rattle.case_split.specs.Task.{Task, IsTask, IsStage, joins}
-use Rattle.case_split.specs.TermForms.{term_form}
 use Rattle.case_split.specs.Walk.{joins_left, IsAt, IsWaiting}
 use Rattle.std.proofs.lemmas.List.{append-nil}
 use Rattle.net_model.specs.declared.assume.Assume.{Assume}
 use Rattle.case_split.proofs.Implied.{root_is_possible}
-use Rattle.case_split.proofs.Leading.{LeadsTo, FindsIn, leads_more, finds_more, leads_end, open_items}
+use Rattle.case_split.proofs.Leading.{LeadsTo, FindsIn, leads_more, finds_more}
 use Rattle.case_split.proofs.Splitting.{yes_at, no_at, one_fewer, split_from, split_to, split_from_cycles, split_to_cycles}
 use Rattle.case_split.proofs.Choices.{IsChoiceOf}
 use Rattle.case_split.proofs.Reaching.{the_choice, p_form, q_form}

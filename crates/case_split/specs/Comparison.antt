@@ -1,5 +1,5 @@
 -- What is found of all outputs of two networks, in order.
-use Rattle.std.specs.Prelude.{◌≡◌, ℕ, ◌<◌, List, [], length}
+use Rattle.std.specs.Prelude.{◌≡◌, ℕ, ◌<◌, ◌≤◌, List, length}
 use Rattle.net_model.specs.declared.assume.Assume.{Assume}
 use Rattle.net_model.specs.Formula.{Net}
 use Rattle.net_model.specs.Rules.{names_of}
@@ -9,7 +9,7 @@ use Rattle.refutation.specs.declared.item.Item.{Item}
 use Rattle.refutation.specs.declared.tree.NamedTree.{NamedTree}
 use Rattle.refutation.specs.Trees as trees
 use Rattle.std.specs.List.{slice_index_or}
-use Rattle.tree_check.specs.Valid.{outputs}
+use Rattle.tree_check.specs.Valid.{Pair, IsValid, outputs}
 use Rattle.case_split.specs.Live.{opened}
 use Rattle.case_split.specs.Verdicts.{IsDifference, IsEqualTree, IsUndecidedTree}
 use Rattle.case_split.specs.declared.compared.Compared.{Compared}
@@ -33,3 +33,13 @@ IsComparison premises first second budget (Different k times) =
 IsComparison premises first second budget (Undecided k cases) =
     (k < length first.outputs) × AreEqualBefore premises first second k
     × ((items : List Item) × IsUndecidedTree premises (outputs first second k) budget items × (cases ≡ opened items))
+
+-- a valid tree of at most so many items
+abbrev pub HasTree : List Assume → Pair → ℕ → Type 0
+HasTree premises pair budget = (items : List Item) × IsValid premises pair items × (length items ≤ budget)
+
+-- trees for all outputs
+abbrev pub AreEqual : Compared → Type 0
+AreEqual (Equal all) = Unit {0}
+AreEqual (Different k times) = ⊥
+AreEqual (Undecided k cases) = ⊥

@@ -5,7 +5,6 @@ use Rattle.refutation.specs.declared.item.Fact.{Fact}
 use Rattle.refutation.specs.Cases.{Path}
 use Rattle.diff_bounds.specs.Bounds.{CanBeMet}
 use Rattle.term_store.specs.Tree.{Tree}
-use Rattle.tree_check.specs.declared.form.Form.{Form}
 use Rattle.tree_check.specs.declared.form.Form.TheVariants.{Plus, Undecided}
 use Rattle.tree_check.specs.Forms.{compared}
 use Rattle.tree_check.specs.Valid.{is_right, listed}

@@ -1,6 +1,6 @@
 -- What the two terms are where every place has a form.
 use Rattle.std.specs.Prelude.{◌≡◌, ℕ, ℤ, pos, ◌+ℤ◌, ◌≤◌, ◌<◌, true, List, [], ◌∷◌, length}
-use Rattle.std.specs.List.{All, AllByRecursion}
+use Rattle.std.specs.List.{All}
 use Rattle.refutation.specs.declared.item.Item.{Item}
 use Rattle.refutation.specs.declared.item.Item.TheVariants as item
 use Rattle.refutation.specs.declared.item.Fact.{Fact}

@@ -1,5 +1,5 @@
 -- The stages with which pending sides begin.
-use Rattle.std.specs.Prelude.{◌≡◌, ℕ, ◌≤◌, List, [], ◌∷◌, ◌++◌, length, take}
+use Rattle.std.specs.Prelude.{ℕ, ◌≤◌, List, [], ◌∷◌, ◌++◌, length, take}
 use Rattle.refutation.specs.declared.item.Fact.{Fact}
 use Rattle.refutation.specs.Cases.{Path}
 use Rattle.tree_check.specs.declared.form.Form.{Form}

@@ -1,5 +1,5 @@
 -- One place of the walk through the cases, and those that are still to come.
-use Rattle.std.specs.Prelude.{◌≡◌, ℕ, ◌++◌, List, [], ◌∷◌, length, map}
+use Rattle.std.specs.Prelude.{ℕ, ◌++◌, List, [], ◌∷◌, length, map}
 use Rattle.refutation.specs.declared.assumption.Assumption.{Assumption}
 use Rattle.refutation.specs.declared.item.Fact.{Fact}
 use Rattle.refutation.specs.Cases.{Path}

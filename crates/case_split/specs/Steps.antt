@@ -7,7 +7,6 @@ use Rattle.term_store.specs.declared.node.Node.TheVariants as node
 use Rattle.tree_check.specs.declared.form.Form.{Form}
 use Rattle.tree_check.specs.declared.form.Form.TheVariants.{Never, Plus, Undecided}
 use Rattle.tree_check.specs.Forms.{Known, compared, chosen, form_at, min_form, max_form, lt_form, inc_form}
-use Rattle.case_split.specs.declared.comparison.Choice.{Choice}
 use Rattle.case_split.specs.declared.comparison.Comparison.{Comparison}
 use Rattle.case_split.specs.declared.comparison.Step.{Step}
 use Rattle.case_split.specs.declared.comparison.Step.TheVariants.{Settled, Chosen}

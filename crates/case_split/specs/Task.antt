@@ -1,6 +1,6 @@
 -- What is decided: the terms of two places of a store, under premises.
 use Rattle.std.specs.Prelude.{◌≡◌, ℕ, ◌+◌, ◌<◌, ◌≤◌, ◌++◌, true, List, [], ◌∷◌, length}
-use Rattle.std.specs.List.{All, AllByRecursion}
+use Rattle.std.specs.List.{All}
 use Rattle.net_model.specs.declared.assume.Assume.{Assume}
 use Rattle.spike_eval.specs.Premises.{NameInputs}
 use Rattle.refutation.specs.declared.item.Fact.{Fact}
@@ -9,12 +9,11 @@ use Rattle.refutation.specs.Limits.{IsSmallFact}
 use Rattle.term_store.specs.declared.node.Node.{Node}
 use Rattle.term_store.specs.declared.node.Node.TheVariants as node
 use Rattle.term_store.specs.declared.node.Term.{Term}
-use Rattle.term_store.specs.Tree.{Tree, span}
+use Rattle.term_store.specs.Tree.{span}
 use Rattle.term_store.specs.Nodes.{node_at, IsNodes}
 use Rattle.term_store.specs.Reach.{IsReached}
 use Rattle.term_store.specs.Places.{is_join_node}
 use Rattle.term_store.specs.Trees.{tree}
-use Rattle.tree_check.specs.declared.form.Form.{Form}
 use Rattle.tree_check.specs.Forms.{form_at, is_decided}
 use Rattle.tree_check.specs.Valid.{root, listed}
 use Rattle.case_split.specs.TermForms.{term_form}

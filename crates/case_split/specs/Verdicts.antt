@@ -1,6 +1,6 @@
 -- What the decider answers.
 use Rattle.std.specs.Prelude.{◌≡◌, ℕ, ◌+◌, ◌<◌, ◌≤◌, ◌^◌, List, [], ◌∷◌, length}
-use Rattle.std.specs.List.{All, AllByRecursion}
+use Rattle.std.specs.List.{All}
 use Rattle.rl_time.specs.declared.time.Time.{Time}
 use Rattle.rl_time.specs.declared.time.Time.TheVariants.{At, Never}
 use Rattle.net_model.specs.declared.assume.Assume.{Assume}
@@ -51,6 +51,11 @@ abbrev pub IsRight : List Assume → Pair → ℕ → Verdict → Type 0
 IsRight premises pair budget (verdict.Equal tree) = IsEqualTree premises pair budget tree
 IsRight premises pair budget (verdict.Different times) = IsDifference premises pair times.items
 IsRight premises pair budget (verdict.Undecided tree) = IsUndecidedTree premises pair budget tree
+
+abbrev pub IsEqual : Verdict → Type 0
+IsEqual (verdict.Equal tree) = Unit {0}
+IsEqual (verdict.Different times) = ⊥
+IsEqual (verdict.Undecided tree) = ⊥
 
 -- the same of two terms over n inputs, of which p subterms are min, max or lt
 abbrev pub IsDecision : ℕ → List Assume → Tree → Tree → ℕ → ℕ → Decision → Type 0

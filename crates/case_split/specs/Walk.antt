@@ -1,5 +1,5 @@
 -- The walk through the cases: where a stage is, and what a place waits for.
-use Rattle.std.specs.Prelude.{◌≡◌, ℕ, zero, ◌+◌, ◌<◌, ◌≤◌, ◌++◌, [], ◌∷◌, length, drop}
+use Rattle.std.specs.Prelude.{◌≡◌, ℕ, ◌+◌, ◌<◌, ◌≤◌, ◌++◌, [], ◌∷◌, length, drop}
 use Rattle.term_store.specs.Nodes.{node_at}
 use Rattle.case_split.specs.declared.comparison.Choice.{Choice}
 use Rattle.case_split.specs.declared.comparison.Step.TheVariants.{Chosen}

@@ -1,9 +1,10 @@
 //! All outputs of two networks, in order.
-ghost use Rattle.std.specs.Prelude.{◌≡◌, ◌≤◌, length, IfOk};
+ghost use Rattle.std.specs.Prelude.{◌≡◌, ◌≤◌, ◌<◌, ℕ, length, IfOk};
 ghost use Rattle.std.specs.List.{All};
 ghost use Rattle.spike_eval.specs.Premises.{NameInputs};
+ghost use Rattle.tree_check.specs.Valid.{outputs};
 ghost use Rattle.case_split.specs.Live.{splits, opened};
-ghost use Rattle.case_split.specs.Comparison.{IsComparison};
+ghost use Rattle.case_split.specs.Comparison.{IsComparison, HasTree, AreEqual};
 
 use crate::compared::Compared;
 use crate::deciding::decide;
@@ -38,6 +39,7 @@ pub fn compare(
     requires small_budget { budget ≤ 1000000 }
     requires room { length store.old.nodes ≤ 131072 }
     ensures compared { IfOk result (IsComparison premises.now first.now second.now budget) }
+    ensures complete { ((k : ℕ) → k < length first.now.outputs → HasTree premises.now (outputs first.now second.now k) budget) → IfOk result AreEqual }
     ensures store { store.new.nodes ≡ store.old.nodes }
 {
     valid_trees_decide();

@@ -1,16 +1,17 @@
 ghost use Rattle.std.specs.Prelude.{◌≡◌, ◌≤◌, ◌<◌, IfOk, List, ℕ, length};
 ghost use Rattle.std.specs.List.{All};
 ghost use Rattle.net_model.specs.declared.assume.Assume.{Assume};
+ghost use Rattle.refutation.specs.declared.item.Item.{Item};
 ghost use Rattle.spike_eval.specs.Causal.{numbers};
 ghost use Rattle.spike_eval.specs.Premises.{NameInputs};
 ghost use Rattle.term_store.specs.Nodes.{IsNodes};
 ghost use Rattle.term_store.specs.Subterms.{join_count};
 ghost use Rattle.term_store.specs.Terms.{tree_in, network_trees};
 ghost use Rattle.term_store.specs.Trees.{IsPrefix};
-ghost use Rattle.tree_check.specs.Valid.{Pair, outputs};
+ghost use Rattle.tree_check.specs.Valid.{Pair, IsValid, outputs};
 ghost use Rattle.case_split.specs.Live.{pair_terms};
 ghost use Rattle.case_split.specs.Parted.{IsPart};
-ghost use Rattle.case_split.specs.Verdicts.{IsRight, IsDecision};
+ghost use Rattle.case_split.specs.Verdicts.{IsRight, IsEqual, IsDecision};
 
 use crate::drawing::early_difference;
 use crate::ending::Decision;
@@ -20,6 +21,7 @@ use net_model::{Assume, Network};
 use rl_time::{NoMemory, Time};
 use std::alloc::Global;
 use term_store::{Store, Term};
+use tree_check::valid_trees_decide;
 
 /// Whether output `out` of two networks is equal at all times that meet the premises, by a least tree, of at most `budget` items. It is
 /// undecided only where no valid tree has as few. Both outputs are planted in the store, which is afterwards what it was.
@@ -45,8 +47,10 @@ pub fn decide(
     requires small_budget { budget ≤ 1000000 }
     requires room { length store.old.nodes ≤ 131072 }
     ensures right { IfOk result (IsRight premises.now (outputs first.now second.now out) budget) }
+    ensures complete { (items : List Item) → IsValid premises.now (outputs first.now second.now out) items → length items ≤ budget → IfOk result IsEqual }
     ensures store { store.new.nodes ≡ store.old.nodes }
 {
+    valid_trees_decide();
     if let Some(times) = early_difference(alloc, first, second, out, premises)? {
         return Ok(Verdict::Different(times));
     }

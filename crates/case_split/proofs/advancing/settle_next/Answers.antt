@@ -1,4 +1,4 @@
-use Rattle.std.proofs.Common.{◌≡◌, ◌<◌, ℕ, List, subst, sym, refl}
+use Rattle.std.proofs.Common.{◌<◌, ℕ, List, subst, sym, refl}
 use Rattle.std.specs.List.{All}
 use Rattle.tree_check.specs.declared.form.Form.{Form}
 use Rattle.tree_check.specs.Room.{IsWithin}

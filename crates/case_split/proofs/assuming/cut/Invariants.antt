@@ -1,4 +1,4 @@
-use Rattle.std.proofs.Common.{◌≡◌, ℕ, take, length}
+use Rattle.std.proofs.Common.{◌≡◌, take, length}
 use Rattle.case_split.proofs.assuming.cut.Given as goal
 
 abbrev pub invariant-loop-bounds : goal.invariant-loop-bounds

@@ -1,5 +1,4 @@
-use Rattle.std.proofs.Common.{◌≡◌, arith, sym, subst}
-use Rattle.std.specs.Prelude.{ℤ, pos, negsuc, ◌≤ℤ◌}
+use Rattle.std.proofs.Common.{arith}
 use Rattle.std.proofs.lemmas.Int.{ints}
 use Rattle.case_split.proofs.Implied.{least_is_small, right_fact, small_fact, says_at_most}
 use Rattle.case_split.proofs.assuming.implied.Goals as goal

@@ -1,5 +1,5 @@
-use Rattle.std.proofs.Common.{◌≡◌, ◌∙◌, arith, take, ap, ◌++◌, ◌∷◌, [], List, get_or, to_z, of_z, w64, ◌≤◌}
-use Rattle.std.specs.Prelude.{pos, ℤ}
+use Rattle.std.proofs.Common.{◌≡◌, ◌∙◌, arith, take, get_or, to_z, of_z, w64, ◌≤◌}
+use Rattle.std.specs.Prelude.{pos}
 use Rattle.net_model.specs.declared.assume.Assume.{Assume}
 use Rattle.std.proofs.lemmas.Int.{ints}
 use Rattle.case_split.proofs.Implied.{one_more_is_possible, root_more}

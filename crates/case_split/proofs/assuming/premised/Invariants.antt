@@ -1,4 +1,4 @@
-use Rattle.std.proofs.Common.{◌≡◌, take, length}
+use Rattle.std.proofs.Common.{◌≡◌, take}
 use Rattle.tree_check.specs.Valid.{root}
 use Rattle.case_split.proofs.assuming.premised.Given as goal
 

@@ -1,6 +1,6 @@
 use Rattle.std.proofs.Common.{◌≡◌, ◌<◌, List, length, get_or, subst, ◌∙◌}
 use Rattle.net_model.specs.Formula.{Equation}
-use Rattle.case_split.specs.Verdicts.{IsRight}
+use Rattle.case_split.specs.Verdicts.{IsEqual}
 use Rattle.case_split.proofs.EqualOutputs.{first_difference, first_undecided, one_equal}
 use Rattle.case_split.proofs.comparing.compare.Goals as goal
 
@@ -23,3 +23,15 @@ loop-out-preserved c = record {
       (subst (λ (es : List Equation). c.output-item.result ≡ get_or es c.loop-out.out c.output-item.result) c.outputs-output-items.ensures c.output-item.is)
       (c.in_ok-copy-in-Equal.ensures ∙ c.name.ensures) c.loop-out.invariant.shown c.in_ok-tree.ensures.right c.in-Equal.is);
 }
+
+pub returns-in-Different-clause-complete : goal.returns-in-Different-clause-complete
+returns-in-Different-clause-complete c = λ fit.
+    let lt = subst (λ (es : List Equation). c.loop-out.out < length es) c.outputs-output-items.ensures c.loop-out-test.true in
+    let tree = fit c.loop-out.out lt in
+    subst IsEqual c.in-Different.is (c.in_ok-tree.ensures.complete tree.0 tree.1 tree.2)
+
+pub returns-in-Undecided-clause-complete : goal.returns-in-Undecided-clause-complete
+returns-in-Undecided-clause-complete c = λ fit.
+    let lt = subst (λ (es : List Equation). c.loop-out.out < length es) c.outputs-output-items.ensures c.loop-out-test.true in
+    let tree = fit c.loop-out.out lt in
+    subst IsEqual c.in-Undecided.is (c.in_ok-tree.ensures.complete tree.0 tree.1 tree.2)

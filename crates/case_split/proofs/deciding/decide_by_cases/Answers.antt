@@ -1,4 +1,4 @@
-use Rattle.std.proofs.Common.{ap, length, sym, ◌∙◌}
+use Rattle.std.proofs.Common.{ap, length}
 use Rattle.tree_check.specs.Valid.{outputs}
 use Rattle.case_split.proofs.Tasks.{asked_of, is_task, joins_of_pair}
 use Rattle.case_split.proofs.Verdicts.{decision_of}

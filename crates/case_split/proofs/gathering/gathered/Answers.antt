@@ -1,4 +1,4 @@
-use Rattle.std.proofs.Common.{◌≡◌, ◌<◌, ◌++◌, ◌∷◌, [], length, get_or, None, refl, sym, ap, ◌∙◌}
+use Rattle.std.proofs.Common.{◌<◌, ◌++◌, ◌∷◌, [], length, get_or, None, sym, ap, ◌∙◌}
 use Rattle.case_split.proofs.Cells.{some_gathered, none_gathered, all_gathered}
 use Rattle.case_split.proofs.gathering.gathered.Goals as goal
 use Rattle.case_split.proofs.gathering.gathered.Goals.{in-Some+in_ok-copied+in_ok-push, in_default}

@@ -1,12 +1,5 @@
-use Rattle.std.proofs.Common.{◌≡◌, sym, subst, ap, ◌∙◌, true, false, List, ℕ}
-use Rattle.std.specs.Prelude.{ℤ, Some}
-use Rattle.std.specs.Bool.{MatchBool}
 use Rattle.std.proofs.lemmas.Bool.{MatchBool-at_true, MatchBool-at_false}
-use Rattle.std.proofs.lemmas.Result.{on_ok_weaker, IfOk-weaker}
-use Rattle.refutation.specs.Path.{MeetsAll}
-use Rattle.tree_check.specs.Forms.{compared}
-use Rattle.tree_check.specs.Valid.{listed}
-use Rattle.case_split.specs.declared.comparison.Comparison.{Comparison}
+use Rattle.std.proofs.lemmas.Result.{on_ok_weaker}
 use Rattle.case_split.proofs.Judged.{no_first, second_answer, after_twice}
 use Rattle.case_split.proofs.leaf.are_equal.Goals as goal
 

@@ -1,7 +1,5 @@
-use Rattle.std.proofs.Common.{sym, subst, ◌∙◌}
+use Rattle.std.proofs.Common.{sym, subst}
 use Rattle.refutation.specs.Cases.{Path}
-use Rattle.refutation.specs.declared.item.Fact.{Fact}
-use Rattle.std.proofs.Common.{List}
 use Rattle.case_split.specs.Decided.{AreRight}
 use Rattle.case_split.proofs.Judged.{answered, right_append, at_some, at_none, side_bound, possible_at, last_at}
 use Rattle.case_split.proofs.leaf.is_so.Goals as goal

@@ -1,8 +1,7 @@
-use Rattle.std.proofs.Common.{◌≡◌, sym, subst, ap, ◌∙◌, length, List, ℕ}
+use Rattle.std.proofs.Common.{sym, subst, ap, ◌∙◌, length, List, ℕ}
 use Rattle.std.specs.List.{All}
 use Rattle.std.proofs.lemmas.Bool.{MatchBool-at_true, MatchBool-at_false}
 use Rattle.refutation.specs.declared.item.Fact.{Fact}
-use Rattle.tree_check.specs.declared.form.Form.{Form}
 use Rattle.tree_check.specs.Forms.{form_at}
 use Rattle.tree_check.specs.Valid.{listed}
 use Rattle.case_split.specs.Task.{IsFact}

@@ -1,6 +1,3 @@
-use Rattle.std.proofs.Common.{◌∙◌, ◌++◌, ◌∷◌, [], List, ap, append_assoc}
-use Rattle.refutation.specs.declared.item.Item.{Item}
-use Rattle.refutation.specs.declared.item.Item.TheVariants as item
 use Rattle.case_split.proofs.Leading.{one_open_more}
 use Rattle.case_split.proofs.walk.left_open.Goals as goal
 

@@ -1,20 +1,15 @@
-use Rattle.std.proofs.Common.{◌≡◌, ◌∙◌, ◌<◌, ◌≤◌, ℕ, ap, subst, sym, refl, arith, List, [], ◌∷◌, ◌++◌, length, suc, replicate}
-use Rattle.std.specs.Prelude.{Option, MatchOption}
+use Rattle.std.proofs.Common.{◌∙◌, ◌<◌, ◌≤◌, ℕ, ap, subst, sym, arith, List, [], ◌∷◌, length}
 use Rattle.std.specs.List.{AllByRecursion}
 use Rattle.case_split.specs.Decided.{IsPossible}
 use Rattle.refutation.specs.declared.item.Item.{Item}
-use Rattle.refutation.specs.declared.item.Item.TheVariants as item
 use Rattle.tree_check.specs.Valid.{root}
-use Rattle.case_split.specs.declared.comparison.Choice.{Choice}
-use Rattle.case_split.specs.declared.ending.Ending.{Ending}
 use Rattle.case_split.specs.declared.ending.Decision.TheVariants as decision
-use Rattle.case_split.specs.Leaves.{IsWhole, IsEnding}
+use Rattle.case_split.specs.Leaves.{IsWhole}
 use Rattle.case_split.specs.Live.{opened}
 use Rattle.case_split.specs.Stages.{Stage, Stages}
 use Rattle.case_split.specs.Task.{Task, IsTask}
-use Rattle.case_split.specs.Walk.{IsAt, IsWaiting}
 use Rattle.case_split.proofs.Splitting.{split_from, split_to, split_from_cycles, split_to_cycles}
-use Rattle.case_split.proofs.Walking.{IsWalk, output_term, walk_begins_there, walk_advances, walk_splits, walk_ends_one}
+use Rattle.case_split.proofs.Walking.{IsWalk, output_term, walk_begins_there, walk_advances}
 use Rattle.case_split.proofs.Unsettled.{Decides, walk_equal, walk_differs, walk_undecided, all_possible, all_have_room, ending_of, walk_after, leaf_opens_none, walk_split_is, split_opens_two}
 use Rattle.case_split.proofs.walk.settle.Goals as goal
 

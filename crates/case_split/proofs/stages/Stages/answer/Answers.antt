@@ -1,9 +1,8 @@
-use Rattle.std.proofs.Common.{◌≡◌, ◌∙◌, ap, subst, sym, [], ◌∷◌, ◌++◌, refl, ℕ, ℤ, List, true, arith}
-use Rattle.std.specs.Prelude.{pos, neg_ℤ, ◌-ℤ◌, ◌<ℤ◌, ◌≤ℤ◌}
+use Rattle.std.proofs.Common.{subst, sym, List, arith}
+use Rattle.std.specs.Prelude.{pos, neg_ℤ, ◌-ℤ◌}
 use Rattle.std.proofs.lemmas.Int.{ints}
 use Rattle.refutation.specs.declared.item.Fact.{Fact}
 use Rattle.refutation.specs.Path.{MeetsAll}
-use Rattle.diff_bounds.specs.Bounds.{Implies}
 use Rattle.case_split.specs.Decided.{AreRight}
 use Rattle.case_split.specs.Stages.{Stages}
 use Rattle.case_split.specs.Steps.{width}

@@ -1,4 +1,4 @@
-use Rattle.std.proofs.Common.{◌∙◌, ap, [], ◌∷◌, refl}
+use Rattle.std.proofs.Common.{◌∙◌, ap, []}
 use Rattle.case_split.specs.Stages.{Stages}
 use Rattle.case_split.proofs.Nesting.{grown_nested, grown_begun, none_more}
 use Rattle.case_split.proofs.stages.Stages.assume.Goals as goal

@@ -1,8 +1,8 @@
-use Rattle.std.proofs.Common.{◌≡◌, ◌∙◌, ap, sym, subst, [], ◌∷◌, ◌++◌, refl, arith, List, length, length-append, ℕ, ◌≤◌}
+use Rattle.std.proofs.Common.{◌∙◌, ap, sym, subst, [], ◌∷◌, arith, List, length, length-append, ℕ, ◌≤◌}
 use Rattle.std.specs.List.{AllByRecursion}
 use Rattle.diff_bounds.specs.Pressing.{IsNear}
 use Rattle.case_split.specs.Decided.{IsPossible}
-use Rattle.case_split.specs.Stages.{Stages, Stage, assumed}
+use Rattle.case_split.specs.Stages.{Stages, Stage}
 use Rattle.case_split.specs.Nested.{begun}
 use Rattle.case_split.proofs.Nesting.{cut_nested, cut_begun, popped_near}
 use Rattle.case_split.proofs.stages.Stages.back.Goals as goal

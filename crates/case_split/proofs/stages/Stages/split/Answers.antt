@@ -1,4 +1,4 @@
-use Rattle.std.proofs.Common.{◌≡◌, ◌∙◌, ap, subst, sym, [], ◌∷◌, ◌++◌, refl, arith, List, ℤ, length}
+use Rattle.std.proofs.Common.{◌≡◌, ap, subst, sym, [], ◌∷◌, ◌++◌, arith, List, ℤ, length}
 use Rattle.std.specs.Prelude.{OnOk, pos, neg_ℤ, ◌-ℤ◌}
 use Rattle.std.proofs.lemmas.Int.{ints}
 use Rattle.refutation.specs.declared.assumption.Assumption.{Assumption}
