@@ -34,21 +34,34 @@ output x = min(b, a)
 output y = inc(a, 3)
 ";
 
-// What `compare` says of two networks, and that `check` accepts the trees where they are equal.
-fn expect_compared(
+// `check` accepts these trees of two networks.
+fn expect_accepted<'a>(
     rt: &impl Abort,
     alloc: Global,
-    texts: (&[u8], &[u8]),
+    first: &'a [u8],
+    second: &'a [u8],
+    trees: &'a [u8],
+) -> Result<(), Fail> {
+    let shelf = [("f", first), ("g", second), ("t", trees)];
+    let (status, _) = answer_on(rt, alloc, &shelf, &["check", "f", "g", "t"])?;
+    assert_eq!(rt; status, Status::Done);
+    Ok(())
+}
+
+// What `compare` says of two networks begins so; and `check` accepts the trees where they are equal.
+fn expect_compared<'a>(
+    rt: &impl Abort,
+    alloc: Global,
+    first: &'a [u8],
+    second: &'a [u8],
     words: &[&str],
     want: (Status, &[u8]),
 ) -> Result<(), Fail> {
-    let (status, text) = answer_on(rt, alloc, &[("f", texts.0), ("g", texts.1)], words)?;
+    let (status, text) = answer_on(rt, alloc, &[("f", first), ("g", second)], words)?;
     assert_eq!(rt; status, want.0);
     assert!(rt; text.starts_with(want.1));
     if status == Status::Done {
-        let shelf = [("f", texts.0), ("g", texts.1), ("t", text.as_slice())];
-        let (checked, _) = answer_on(rt, alloc, &shelf, &["check", "f", "g", "t"])?;
-        assert_eq!(rt; checked, Status::Done);
+        expect_accepted(rt, alloc, first, second, text.as_slice())?;
     }
     Ok(())
 }
@@ -60,13 +73,14 @@ fn equal_networks_have_trees_that_check_accepts(rt: HostRuntime) -> Result<(), F
     let five = ["compare", "f", "g", "--nodes", "5"];
     let trees = b"racetree 1\ntree y\nsplit ".as_slice();
     let leaf = b"racetree 1\ntree y\nleaf\nend\n".as_slice();
-    expect_compared(&rt, alloc, (MAX, BY_LATCHES), &plain, (Status::Done, trees))?;
-    expect_compared(&rt, alloc, (BY_LATCHES, MAX), &five, (Status::Done, trees))?;
+    expect_compared(&rt, alloc, MAX, BY_LATCHES, &plain, (Status::Done, trees))?;
+    expect_compared(&rt, alloc, BY_LATCHES, MAX, &five, (Status::Done, trees))?;
     let wire = b"racenet 1\ninput a b\noutput y = a\n".as_slice();
     expect_compared(
         &rt,
         alloc,
-        (wire, wire),
+        wire,
+        wire,
         &["compare", "f", "g", "--nodes", "1"],
         (Status::Done, leaf),
     )
@@ -103,14 +117,16 @@ fn the_first_output_that_differs_is_named(rt: HostRuntime) -> Result<(), Fail> {
     expect_compared(
         &rt,
         alloc,
-        (MIN, MAX),
+        MIN,
+        MAX,
         &plain,
         (Status::No, b"different y\na ".as_slice()),
     )?;
     expect_compared(
         &rt,
         alloc,
-        (TWO, TWO_OTHERS),
+        TWO,
+        TWO_OTHERS,
         &plain,
         (Status::No, b"different y\na ".as_slice()),
     )
