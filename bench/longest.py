@@ -69,7 +69,7 @@ def toggling(wires, parts):
 
 
 def chained(wires, toggles):
-    """A module whose wires are one chain behind an input, or behind a register that toggles."""
+    """A module whose wires are one chain after an input, or after a register that toggles."""
     ports = ["  input clk;", "  input rst;", "  input in_a;", "  output out_y;"]
     head = ["module race(clk, rst, in_a, out_y);"] + ports + ["  wire w%d;" % k for k in range(wires)] + ["  reg r;"]
     assigns = ["  assign w%d = %s;" % (k, "w%d" % (k - 1) if k else "r" if toggles else "in_a") for k in range(wires)]
