@@ -1,4 +1,4 @@
--- One place of the walk through the cases, and those that are still to come.
+-- One place of the walk through the cases, and those that are pending.
 use Rattle.std.specs.Prelude.{ℕ, ◌++◌, List, [], ◌∷◌, length, map}
 use Rattle.refutation.specs.declared.assumption.Assumption.{Assumption}
 use Rattle.refutation.specs.declared.item.Fact.{Fact}
@@ -17,7 +17,7 @@ pub record Stages : Type 0 where
   pub now : Stage
   pub later : List Stage
 
--- the paths of the subtrees to come
+-- the paths of the pending subtrees
 abbrev pub pending : Stages → List Path
 pending s = s.now.path ∷ map (λ l. l.path) s.later
 

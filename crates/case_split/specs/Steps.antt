@@ -58,7 +58,7 @@ node_form known forms (node.Max a b) = max_form known (form_at forms a.0) (form_
 node_form known forms (node.Lt a b) = lt_form known (form_at forms a.0) (form_at forms b.0)
 node_form known forms (node.Inc a c) = inc_form (form_at forms a.0) c
 
--- the form that comes of a step, where it is known which comparisons are so
+-- the form that a step gives, where it is known which comparisons are so
 abbrev pub step_form : Known → Step → Form
 step_form known (Settled f) = f
 step_form known (Chosen c) = chosen (compared known c.comparison.from c.comparison.from_cycles c.comparison.to c.comparison.to_cycles) c.yes c.no

@@ -14,7 +14,7 @@ use refutation::Fact;
 use rl_time::NoMemory;
 use std::alloc::Global;
 
-/// Bounds under the premises alone.
+/// Bounds with the premises as their only assumptions.
 pub fn premised(alloc: Global, inputs: u32, premises: &[Assume]) -> Result<Bounds, NoMemory>
     requires some_inputs { 1 ≤ inputs }
     requires few_inputs { inputs ≤ 64 }

@@ -21,7 +21,7 @@ use tree_check::valid_trees_decide;
 /// is afterwards what it was.
 ///
 /// Both networks have as many inputs, and as many outputs. At most 128 premises name inputs and are by at most 1,000,000 cycles. The budget is
-/// 1 to 1,000,000, and the store holds at most 131,072 nodes.
+/// 1 to 1,000,000, and the store holds at most 131,072 nodes. The error is that memory ran out.
 pub fn compare(
     alloc: Global,
     first: &Network,

@@ -27,7 +27,7 @@ use tree_check::valid_trees_decide;
 /// undecided only where no valid tree has as few. Both outputs are planted in the store, which is afterwards what it was.
 ///
 /// Both networks have the same number of inputs. At most 128 premises name inputs and are by at most 1,000,000 cycles. The budget is 1 to
-/// 1,000,000, and the store holds at most 131,072 nodes.
+/// 1,000,000, and the store holds at most 131,072 nodes. The error is that memory ran out.
 pub fn decide(
     alloc: Global,
     first: &Network,
@@ -60,7 +60,7 @@ pub fn decide(
     verdict
 }
 
-/// The same by cases alone. What was planted stays in the store.
+/// The same only by cases. What was planted stays in the store.
 fn decide_by_cases(
     alloc: Global,
     first: &Network,
@@ -91,7 +91,7 @@ fn decide_by_cases(
     verdict(alloc, decision)
 }
 
-/// Plants output `out` of two networks: a store of the terms of the two alone, and their places there.
+/// Plants output `out` of two networks: a store of only these two terms, and their places there.
 fn planted(
     alloc: Global,
     first: &Network,

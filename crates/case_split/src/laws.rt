@@ -1,4 +1,4 @@
-//! Laws of the forms of terms.
+//! Laws of the forms of terms, and of trees of due splits.
 ghost use Rattle.std.specs.Prelude.{◌≡◌, ◌+◌, ◌<◌, ◌≤◌, ◌∷◌, [], ℕ, true, List, length};
 ghost use Rattle.std.specs.List.{AllByRecursion};
 ghost use Rattle.net_model.specs.declared.assume.Assume.{Assume};

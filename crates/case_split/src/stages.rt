@@ -83,7 +83,7 @@ impl Stages {
         &self.facts
     }
 
-    /// How many stages are to come: this one, and the pending sides.
+    /// How many stages are left: this one, and the pending sides.
     pub fn pending(&self) -> usize
         ensures { result ≡ 1 + length self.now.later }
     {
@@ -108,7 +108,7 @@ impl Stages {
     }
 
     /// Whether the comparison is so at all numbers that meet what is assumed (`Some(true)`), at none of them (`Some(false)`), or
-    /// neither (`None`). Where it is decided, the facts show it; at most one comes to them.
+    /// neither (`None`). Where it is decided, the facts show it; at most one is added.
     pub fn answer(&mut self, comparison: Comparison) -> Result<Option<bool>, NoMemory>
         requires from { comparison.from < self.old.inputs }
         requires to { comparison.to < self.old.inputs }
@@ -143,7 +143,7 @@ impl Stages {
         Ok(None)
     }
 
-    /// Whether all that is assumed implies `x_i - x_j <= w`. Where it does, a fact comes that shows it.
+    /// Whether all that is assumed implies `x_i - x_j <= w`. Where it does, a fact that shows it is added.
     fn shows(&mut self, i: u32, j: u32, w: i64) -> Result<bool, NoMemory>
         requires i { i < self.old.inputs }
         requires j { j < self.old.inputs }

@@ -9,8 +9,8 @@ use Rattle.rl_flow.specs.Words.{is_file_word, is_number_word, is_cycles_word, is
 -- What is to be done with files: compile its source; evaluate its source at times; write the network of its table; write its
 -- network simplified; write the table of its network's output of this name, on times up to a number; simulate its module for
 -- some cycles, with inputs that rise at times; the same by activations in a numbered order; check by the trees of the third file
--- that the networks of the first two have equal outputs; decide whether the networks of two files have equal outputs, with at most so
--- many cases for each output; make a large network from a number, and compile, simulate and compare
+-- that the networks of the first two have equal outputs; decide whether the networks of two files have equal outputs, by trees of at
+-- most so many items; make a large network from a number, and compile, simulate and compare
 -- it, without a file
 pub data Task : Type 0 where
   Compile : Task
@@ -81,7 +81,7 @@ check_command (a ∷ b ∷ []) = None
 check_command (a ∷ []) = None
 check_command [] = None
 
--- nothing, or `--nodes N`: the greatest number of cases for an output, which is 100,000 where none is given
+-- nothing, or `--nodes N`: the most items of an output's tree, which are 100,000 where no number is given
 abbrev pub budget_of : List (List ℕ) → Option ℕ
 budget_of [] = Some 100000
 budget_of (flag ∷ n ∷ []) = if bytes_eq flag (codes "--nodes") && is_budget_word n then Some (digits_value 10 n) else None

@@ -87,6 +87,9 @@ fn undecided_text(alloc: Global, first: &Network, out: u32, cases: u32) -> Resul
 
 /// Whether the networks of two files have equal outputs, by trees of at most `budget` items: done with the text of a tree for each output where
 /// all are equal; no, with times at which the first that isn't equal differs; and undecided where the budget is spent.
+///
+/// Each file has at most 1,048,576 bytes, and the budget is 1 to 1,000,000. Refused are files that are no networks, by the first broken rule of the
+/// first such file, and then names that differ.
 pub fn equality(alloc: Global, first: &[u8], second: &[u8], budget: u32) -> Result<Answer, JobError>
     requires first { length first.now ≤ 1048576 }
     requires second { length second.now ≤ 1048576 }

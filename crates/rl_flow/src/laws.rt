@@ -1,5 +1,5 @@
-//! With texts, as many as its files, a task can be done, or is refused for exactly one fault, and they fix its answer; and a
-//! text is read as exactly one module, or has exactly one fault.
+//! With texts, as many as its files, a task can be done, or is refused for exactly one fault, and they fix its answer, except that
+//! of `compare`; and a text is read as exactly one module, or has exactly one fault.
 ghost use Rattle.std.specs.Prelude.{◌≡◌, ◌⊎◌, ◌∷◌, [], ℕ, List, length};
 ghost use Rattle.rl_time.specs.declared.time.Time.{Time};
 ghost use Rattle.verilog_text.specs.Spelling.{SpellsModule};

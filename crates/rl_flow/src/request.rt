@@ -19,7 +19,7 @@ pub enum Request<'a> {
     SimInOrder(u32, Times, u64),
     /// Check by the trees of the third file that the networks of the first two have equal outputs.
     Check,
-    /// Decide whether the networks of two files have equal outputs, with at most so many cases for each output.
+    /// Decide whether the networks of two files have equal outputs, by trees of at most so many items.
     Compare(u32),
     /// Make a large network from this number, and compile, simulate and compare it.
     Big(u32),

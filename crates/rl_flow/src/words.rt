@@ -227,7 +227,7 @@ fn check_command(words: &[String]) -> Option<Command<'_>>
     }
 }
 
-/// The greatest number of cases for an output: that of the words `--nodes N`, or 100,000 where no words are left.
+/// The most items of an output's tree: the number of the words `--nodes N`, or 100,000 where no words are left.
 fn budget_of(words: &[String]) -> Option<u32>
     ensures budget { result ≡ budget_of (texts_of words.now) }
     ensures some { IfSome result (λ budget. 1 ≤ budget) }
