@@ -15,3 +15,4 @@ pub mod WordTurns
 pub mod Capped
 pub mod Newlines
 pub mod Scanned
+pub mod LexemeTurns

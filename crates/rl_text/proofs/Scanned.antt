@@ -60,7 +60,7 @@ skips_none p bytes e = e ∙ further_none (bad_from place.Between bytes)
 plain_next : (b : ℕ) → is_plain b ≡ true → next_place place.Between b ≡ Some place.Between
 plain_next b h = rw h refl
 
--- bytes that pass a test which plain bytes alone pass
+-- bytes that pass a test which only plain bytes pass
 run : (p : ℕ → Bool) → ((b : ℕ) → p b ≡ true → is_plain b ≡ true) → (bytes : List ℕ) → SkipsTo place.Between bytes (prefix_len p bytes)
 run p f [] = refl
 run p f (b ∷ bytes) =

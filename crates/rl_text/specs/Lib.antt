@@ -9,6 +9,7 @@ pub mod Words
 pub mod First
 pub mod Writing
 pub mod Cursor
+pub mod Left
 pub mod Scan
 pub mod Laws
 pub mod NameMap

@@ -3,12 +3,14 @@
 //! `NoMemory` is reported where memory ran out.
 #![tactic(auto)]
 
+mod bad;
 mod bytes;
 mod cursor;
 mod cut;
 mod first;
 mod front;
 mod laws;
+mod left;
 mod lexer;
 mod name;
 mod name_map;
@@ -21,6 +23,7 @@ mod token;
 mod verilog;
 mod words;
 
+pub use bad::bad_place;
 pub use bytes::{is_digit, is_letter, is_name_byte};
 pub use cursor::{LineWords, Lines};
 pub use cut::{lexemes, line_at};
@@ -30,6 +33,7 @@ pub use laws::{
     one_bad_place, one_first_word, one_list_of_tokens, tokens_or_bad_place,
     written_texts_have_words,
 };
+pub use left::WordsLeft;
 pub use lexer::lex;
 pub use name::{Name, are_name_bytes, copy_names, is_name, numbered_name};
 pub use name_map::NameMap;

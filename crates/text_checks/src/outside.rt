@@ -12,7 +12,7 @@ use std::process::Abort;
 use std::test::Fail;
 use std::{fs, io};
 
-// From the contracts alone: where no call is to fail, a file that is held and is short enough is loaded.
+// From the contracts only: where no call is to fail, a file that is held and is short enough is loaded.
 fn loaded(
     alloc: Global,
     shelf: &mut MemShelf,
@@ -32,7 +32,7 @@ fn loaded(
     }
 }
 
-// From the contracts alone: where no call is to fail and there is room, the whole text is put.
+// From the contracts only: where no call is to fail and there is room, the whole text is put.
 fn put_whole(sink: &mut MemSink, text: &[u8])
     requires fails { sink.old.fails ≡ [] }
     requires room { length sink.old.written + length text.now ≤ sink.old.room }
