@@ -165,7 +165,7 @@ fn header(alloc: Global, inputs: u32, outputs: u32, bytes: u32) -> Result<Vec<u8
     Ok(text)
 }
 
-/// Those that may stand are refused at the end, where ports aren't declared.
+/// Those that are allowed are refused at the end, where ports aren't declared.
 #[test]
 fn ports_are_1_to_64_of_at_most_32_bytes(rt: HostRuntime) -> Result<(), Fail> {
     let alloc = rt.alloc();
@@ -381,7 +381,7 @@ fn fronts_are_refused(rt: HostRuntime) -> Result<(), Fail> {
     Ok(())
 }
 
-/// Spaces and comments may stand between all words; an assign still names only wires of earlier ones.
+/// Spaces and comments may be between all words; an assign still names only wires of earlier ones.
 #[test]
 fn assigns_may_be_spaced_and_commented(rt: HostRuntime) -> Result<(), Fail> {
     let alloc = rt.alloc();

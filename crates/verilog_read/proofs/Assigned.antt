@@ -18,13 +18,13 @@ use Rattle.verilog_read.specs.declared.scope.Meaning.TheVariants as m
 use Rattle.verilog_read.specs.Known as k
 use Rattle.verilog_read.specs.Known.{find, meaning, meaning_found, knows_by, given_by, fits_by, resolved_by, names_reg_by}
 use Rattle.verilog_laws.specs.Sound.{HasPlace, IsSound}
-use Rattle.verilog_read.specs.Draft.{AreFlags, IsDraft, is_assigned_by, assign_misnamed_by, assign_misordered_by, always_misnamed_by, is_update_reg, update_at, set_register}
+use Rattle.verilog_read.specs.Draft.{AreFlags, IsDraft, is_assigned_by, assign_misnamed_by, assign_misordered_by, always_misnamed_by, regs_misnamed_by, is_update_reg, update_at, set_register}
 use Rattle.verilog_read.proofs.Places.{get_within, get_map, get_none}
 use Rattle.verilog_read.proofs.Meanings.{reg_is, reg_known, knows_is, given_is, fits_is, resolved_is}
 use Rattle.verilog_read.proofs.Given.{given_more, assign_more, next_more, bits_next}
 use Rattle.verilog_read.proofs.Kept.{Keeps, keeps, name_broken, order_broken, width_broken, none_broken}
 
-not_false : (b : Bool) → not b ≡ false → b ≡ true
+pub not_false : (b : Bool) → not b ≡ false → b ≡ true
 not_false true h = refl
 not_false false h = absurd cc
 
@@ -192,7 +192,7 @@ module _ (d new : source.Draft) (x : SoFar) (h : IsDraft d x) (n : List ℕ) (e 
       (λ v ne. more t (target.Out v) ∙ ap (λ (b : Bool). is_given x.assigns (target.Out v) || b) (eq_not v w ne) ∙ or_same (is_given x.assigns (target.Out v)))))
       up bits
 
-  -- a name that stands for neither is none that an assign may have
+  -- a name that means neither is none that an assign may have
   pub not_assigned : (o : Option source_meaning.Meaning) → o ≡ find d.scope n → target_of (meaning_found o) ≡ None → ⊥
   not_assigned o p q =
       let none : target_of (found n x.entries) ≡ None = ap target_of (sym (h.names n)) ∙ ap (λ (z : Option source_meaning.Meaning). target_of (meaning_found z)) (sym p) ∙ q in
@@ -234,6 +234,13 @@ update_is rs (Some (m.Reg i)) z s e = update_of (slice_get rs i) (slice_get (map
 resolved_next_is : (es : List j.Entry) (e : Next) → j.resolved_next es e ≡ j.resolved es (expression_of e)
 resolved_next_is es (Whole e) = refl
 resolved_next_is es (Shifted r l e) = refl
+
+pub not_true : (b : Bool) → not b ≡ true → b ≡ false
+not_true false h = refl
+not_true true h = sym h
+
+pub misnamed_is : (d : source.Draft) (r s : List ℕ) (e : Next) (a b : Bool) → a ≡ regs_misnamed_by d r s e → b ≡ knows_by (find d.scope) (expression_of e) → (a || not b) ≡ always_misnamed_by d r s e
+misnamed_is d r s e a b p q = λ i. p i || not (q i)
 
 module _ (d : source.Draft) (x : SoFar) (h : IsDraft d x) (r z s : List ℕ) where
   found_same : (n : List ℕ) (o : Option source_meaning.Meaning) → o ≡ find d.scope n → meaning_found o ≡ found n x.entries
@@ -300,9 +307,12 @@ module _ (d new : source.Draft) (x : SoFar) (h : IsDraft d x) (r z s : List ℕ)
   is_reg_r = not_false (j.is_reg (found r x.entries)) (or_parts (not (j.is_reg (found r x.entries))) (not (j.is_reg (found s x.entries)))
       (or_parts (not (j.is_reg (found r x.entries)) || not (j.is_reg (found s x.entries))) (not (j.knows_next x.entries e)) always_keeps.name).0).0
 
-  -- a name that stands for no register is none that an always statement may have
+  -- a name that means no register is none that an always statement may have
   pub not_reg : (o : Option source_meaning.Meaning) → o ≡ find d.scope r → k.is_reg o ≡ false → ⊥
   not_reg o p q = let b : false ≡ true = sym q ∙ reg_is o ∙ ap j.is_reg (found_same d x h r z s r o p) ∙ is_reg_r in cc
+
+  pub always_other : (o : Option source_meaning.Meaning) → o ≡ find d.scope r → k.is_reg o ≡ false → IsDraft d (after x (g.Always r z s e))
+  always_other o p q = absurd (not_reg o p q)
 
   pub always_kept : (i : ℕ) (o : Option source_meaning.Meaning) (bit : Logic) → o ≡ find d.scope r → o ≡ Some (m.Reg i) → bit ≡ resolved_by (find d.scope) (expression_of e) →
       new.to_declare.items ≡ d.to_declare.items → new.scope ≡ d.scope → new.inputs.items ≡ d.inputs.items → new.outputs.items ≡ d.outputs.items → new.wires.items ≡ d.wires.items →

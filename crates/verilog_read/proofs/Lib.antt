@@ -10,3 +10,4 @@ pub mod Assigned
 pub mod Zeros
 pub mod Flags
 pub mod Reached
+pub mod Spines

@@ -4,8 +4,6 @@ use denote.Bor.{Bor}
 use Rattle.std.specs.Prelude.{is_some}
 use Rattle.std.specs.List.{list_all}
 use Rattle.std.proofs.lemmas.List.{length-map}
-use Rattle.rl_text.specs.declared.words.Lexeme as source_lexeme
-use Rattle.rl_text.specs.Words.{lexeme}
 use Rattle.rl_text.specs.Lexemes.{Lexeme}
 use Rattle.circuit.specs.declared.bit.Target.TheVariants as target
 use Rattle.circuit.specs.Circuit.{circuit}
@@ -233,10 +231,10 @@ module _ (ls : List Lexeme) (d : source.Draft) (b : Option Fault) (k : Stage) (r
         named rule.Width b = (h.before, all_led u, b)
         named rule.Limit b = (h.before, all_led u, b)
 
-pub opened_short : (k : Stage) (ws rest : List source_lexeme.Lexeme) (s : Statement) → Opens k (map lexeme ws) s (map lexeme rest) → length rest < length ws
-opened_short k ws rest s o =
-    let e : length (map lexeme ws) ≡ suc (length (o.others ++ map lexeme rest)) = ap length o.split in
-    omega (arith, e, length-append o.others (map lexeme rest), length-map ws lexeme, length-map rest lexeme)
+pub opened_short : (k : Stage) (ls rest : List Lexeme) (s : Statement) → Opens k ls s rest → length rest < length ls
+opened_short k ls rest s o =
+    let e : length ls ≡ suc (length (o.others ++ rest)) = ap length o.split in
+    omega (arith, e, length-append o.others rest)
 
 -- the module of a draft
 pub module_is : (d : source.Draft) (x : SoFar) → IsDraft d x → circuit d.inputs.items d.outputs.items d.wires.items d.regs.items d.assigns.items ≡ module_of x

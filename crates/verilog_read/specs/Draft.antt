@@ -15,13 +15,14 @@ use Rattle.verilog_read.specs.Outcome.{Names, Fails}
 use Rattle.verilog_text.specs.Grammar.{Form, Header, Expression, Next}
 use Rattle.verilog_text.specs.Judging.{SoFar, nothing_yet, found, bits_of, is_clock_or_reset, is_input_port, is_output_port, is_next, register_of, is_given, first_rule, after, has_form, zero_bits, target_of, expression_of}
 use Rattle.verilog_read.specs.declared.draft.Draft as source
+use Rattle.verilog_read.specs.declared.judged.Judged as source_judged
 use Rattle.verilog_read.specs.declared.scope.Meaning as source_meaning
 use Rattle.verilog_read.specs.declared.scope.Meaning.TheVariants as m
 use Rattle.verilog_read.specs.declared.draft.Fault.{Fault}
 use Rattle.verilog_read.specs.declared.draft.StepError.{StepError}
 use Rattle.verilog_read.specs.declared.draft.StepError.TheVariants.{Broken}
 use Rattle.verilog_read.specs.declared.draft.StepError.TheVariants as step
-use Rattle.verilog_read.specs.Known.{find, meaning_found, is_reg, knows_by, given_by, names_reg_by}
+use Rattle.verilog_read.specs.Known.{find, meaning_found, is_reg, knows_by, given_by, names_reg_by, IsJudged}
 
 -- the flags of the places below n say what f says
 pub record AreFlags (flags : List Bool) (n : ℕ) (f : ℕ → Bool) : Type 0 where
@@ -90,6 +91,10 @@ abbrev pub IsWhole : List Lexeme → ℕ → Result source.Draft VerilogError �
 IsWhole ls end (Ok d) = (ss : List Statement) × (x : SoFar) × AreStatements ls ss × AllStand nothing_yet ss x × IsDraft d x
 IsWhole ls end (Err e) = Names e (Fails ls end)
 
+-- all of this is found out of an expression, by the draft
+abbrev pub IsJudgedBy : source.Draft → Expression → source_judged.Judged → Type 0
+IsJudgedBy d e x = IsJudged (find d.scope) d.given_wires.items d.regs.items e x
+
 -- ---- rules by a draft
 
 abbrev pub is_misnamed_by : source.Draft → List ℕ → Bool
@@ -138,10 +143,13 @@ assign_misordered_by d n e =
     not (given_by (find d.scope) d.given_wires.items e)
     || is_assigned_by d.given_wires.items d.given_outputs.items (target_of (meaning_found (find d.scope n)))
 
-abbrev pub always_misnamed_by : source.Draft → List ℕ → List ℕ → Next → Bool
-always_misnamed_by d r s e =
+-- a name outside of the expression means no register
+abbrev pub regs_misnamed_by : source.Draft → List ℕ → List ℕ → Next → Bool
+regs_misnamed_by d r s e =
     not (is_reg (find d.scope r)) || not (is_reg (find d.scope s)) || not (names_reg_by (find d.scope) e)
-    || not (knows_by (find d.scope) (expression_of e))
+
+abbrev pub always_misnamed_by : source.Draft → List ℕ → List ℕ → Next → Bool
+always_misnamed_by d r s e = regs_misnamed_by d r s e || not (knows_by (find d.scope) (expression_of e))
 
 abbrev pub update_at : List Register → Option source_meaning.Meaning → List ℕ → List ℕ → Next → Bool
 update_at regs (Some (m.Reg r)) z s e = is_update_reg (slice_get regs r) z s e

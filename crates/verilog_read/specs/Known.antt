@@ -1,4 +1,4 @@
--- What the names of a module in the making stand for, as a reader looks them up, and what it finds out of an expression.
+-- What the names of a module in the making mean, as a reader looks them up, and what it finds out of an expression.
 use Rattle.std.specs.Prelude.{◌≡◌, ℕ, ◌+◌, Bool, true, false, ◌&&◌, ◌==◌, nat_lt, min, List, Option, Some, None, slice_get, slice_index_or, if◌then◌else◌, bytes_eq}
 use Rattle.std.specs.Ordering.{nat_cmp}
 use Rattle.std.specs.Cmp.Lexicographic.{slice_cmp}
@@ -6,13 +6,15 @@ use Rattle.std.specs.BTreeMap.{get_by}
 use Rattle.verilog_read.specs.declared.scope.Scope as source
 use Rattle.verilog_read.specs.declared.scope.Meaning.{Meaning}
 use Rattle.verilog_read.specs.declared.scope.Meaning.TheVariants as m
+use Rattle.verilog_read.specs.declared.judged.Judged as source_judged
+use Rattle.circuit.specs.View.{logic}
 use Rattle.circuit.specs.Circuit as c
 use Rattle.circuit.specs.Circuit.{Logic, Register}
 use Rattle.verilog_text.specs.Grammar.{Expression, Low, High, Name, Bit, Not, Group, And, Or, Next, Whole, Shifted}
 use Rattle.verilog_text.specs.Judging as j
 use Rattle.verilog_text.specs.Judging.{number_of}
 
--- what a name stands for in the scope
+-- what a name means in the scope
 abbrev pub find : source.Scope → List ℕ → Option Meaning
 find s t = get_by (λ k. slice_cmp nat_cmp t k.now) s.map
 
@@ -119,12 +121,12 @@ abbrev pub capped_width : Option (List ℕ) → ℕ
 capped_width None = 1
 capped_width (Some digits) = capped digits + 1
 
--- the flag of the register that a name stands for
+-- the flag of the register that a name means
 abbrev pub is_flagged_reg : List Bool → Option Meaning → Bool
 is_flagged_reg flags (Some (m.Reg r)) = slice_index_or flags r false
 is_flagged_reg flags _ = false
 
--- the name that a shift begins with stands for a register
+-- the name that a shift begins with means a register
 abbrev pub names_reg_by : (List ℕ → Option Meaning) → Next → Bool
 names_reg_by find (Whole e) = true
 names_reg_by find (Shifted r k e) = is_reg (find r)
@@ -133,3 +135,10 @@ names_reg_by find (Shifted r k e) = is_reg (find r)
 abbrev pub narrow : Option (List ℕ) → Bool
 narrow None = false
 narrow (Some digits) = capped digits == 0
+
+-- all of this is found out of an expression
+pub record IsJudged (find : List ℕ → Option Meaning) (flags : List Bool) (regs : List Register) (e : Expression) (x : source_judged.Judged) : Type 0 where
+  pub bit : logic x.bit ≡ resolved_by find e
+  pub known : x.findings.known ≡ knows_by find e
+  pub given : x.findings.given ≡ given_by find flags e
+  pub fits : x.findings.fits ≡ fits_by find regs e

@@ -1,3 +1,4 @@
 pub mod Outcome
 pub mod Known
+pub mod Joined
 pub mod Draft

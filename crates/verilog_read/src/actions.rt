@@ -1,14 +1,15 @@
 //! Assign and always statements.
-ghost use Rattle.std.specs.Prelude.{◌≡◌, ◌&&◌, ◌||◌, not, true, is_some, slice_get, slice_set, decimal, bytes_eq, OnOk};
+ghost use Rattle.std.specs.Prelude.{◌≡◌, ◌&&◌, ◌||◌, not, true, ℕ, List, is_some, slice_get, slice_set, decimal, bytes_eq, OnOk};
 ghost use Rattle.verilog_text.specs.Grammar as g;
 ghost use Rattle.verilog_text.specs.Judging as j;
 ghost use Rattle.circuit.specs.View.{logic};
 ghost use Rattle.verilog_syntax.specs.View as v;
-ghost use Rattle.verilog_read.specs.Known.{find, meaning_found, is_reg, knows_by, given_by, is_flagged_reg, names_reg_by};
-ghost use Rattle.verilog_read.specs.Draft.{IsOfSome, Adds, Judges, is_assigned_by, is_update_reg, update_at, set_register, assign_misnamed_by, assign_misordered_by, always_misnamed_by};
+ghost use Rattle.verilog_read.specs.Known.{find, meaning_found, is_reg, is_flagged_reg, names_reg_by, resolved_by};
+ghost use Rattle.verilog_read.specs.Draft.{IsOfSome, Adds, Judges, IsJudgedBy, is_assigned_by, is_update_reg, update_at, set_register, assign_misnamed_by, assign_misordered_by, regs_misnamed_by};
 
 use crate::draft::{Draft, StepError};
-use crate::expressions::{are_given, fits_widths, is_set, knows, resolve};
+use crate::expressions::{is_set, judge_written};
+use crate::judged::Judged;
 use crate::scope::{Meaning, Scope};
 use itoa::Buffer;
 use rl_time::NoMemory;
@@ -44,29 +45,23 @@ fn set_flag(flags: &mut Vec<bool>, place: u32)
     }
 }
 
-fn assign_misnamed(draft: &Draft<'_>, name: &[u8], written: &Written<'_>) -> bool
-    ensures { result ≡ assign_misnamed_by draft.now name.now (v.expression written.now) }
+fn assign_misnamed(draft: &Draft<'_>, name: &[u8], judged: &Judged) -> bool
+    ensures { (e : g.Expression) → IsJudgedBy draft.now e judged.now → result ≡ assign_misnamed_by draft.now name.now e }
 {
     let target = target_of(draft.scope.get(name));
-    target.is_none() || !knows(written, &draft.scope)
+    target.is_none() || !judged.findings.known
 }
 
-fn assign_misordered(draft: &Draft<'_>, name: &[u8], written: &Written<'_>) -> bool
-    ensures { result ≡ assign_misordered_by draft.now name.now (v.expression written.now) }
+fn assign_misordered(draft: &Draft<'_>, name: &[u8], judged: &Judged) -> bool
+    ensures { (e : g.Expression) → IsJudgedBy draft.now e judged.now → result ≡ assign_misordered_by draft.now name.now e }
 {
     let target = target_of(draft.scope.get(name));
-    !are_given(written, &draft.scope, &draft.given_wires) || is_assigned(draft, target)
+    !judged.findings.given || is_assigned(draft, target)
 }
 
-fn push_assign(
-    alloc: Global,
-    draft: &mut Draft<'_>,
-    name: &[u8],
-    written: &Written<'_>,
-) -> Result<(), NoMemory>
-    ensures { OnOk result (Adds draft.old (g.Assign name.now (v.expression written.now)) draft.new) }
+fn push_assign(draft: &mut Draft<'_>, name: &[u8], bit: Bit) -> Result<(), NoMemory>
+    ensures { OnOk result ((e : g.Expression) → logic bit ≡ resolved_by (find draft.old.scope) e → Adds draft.old (g.Assign name.now e) draft.new) }
 {
-    let bit = resolve(alloc, written, &draft.scope)?;
     match target_of(draft.scope.get(name)) {
         Some(Target::Wire(w)) => {
             draft.assigns.push(Assign::new(Target::Wire(w), bit))?;
@@ -86,21 +81,22 @@ pub fn read_assign(
     alloc: Global,
     draft: &mut Draft<'_>,
     name: &[u8],
-    written: &Written<'_>,
+    written: Written<'_>,
 ) -> Result<(), StepError>
     requires { IsOfSome draft.old }
-    ensures { Judges draft.old (g.Assign name.now (v.expression written.now)) draft.new result }
+    ensures { Judges draft.old (g.Assign name.now (v.expression written.entry)) draft.new result }
 {
-    if assign_misnamed(draft, name, written) {
+    let judged = judge_written(alloc, written, draft)?;
+    if assign_misnamed(draft, name, &judged) {
         return Err(StepError::Broken(Rule::Name));
     }
-    if assign_misordered(draft, name, written) {
+    if assign_misordered(draft, name, &judged) {
         return Err(StepError::Broken(Rule::Order));
     }
-    if !fits_widths(written, &draft.scope, &draft.regs) {
+    if !judged.findings.fits {
         return Err(StepError::Broken(Rule::Width));
     }
-    push_assign(alloc, draft, name, written)?;
+    push_assign(draft, name, judged.bit)?;
     Ok(())
 }
 
@@ -114,8 +110,8 @@ fn is_reg(meaning: Option<Meaning>) -> bool
 }
 
 /// The expression that is written in what a register takes.
-fn expression_of<'b, 'a>(next: &'b Next<'a>) -> &'b Written<'a>
-    ensures { v.expression result.now ≡ j.expression_of (v.next next.now) }
+fn expression_of(next: Next<'_>) -> Written<'_>
+    ensures { v.expression result ≡ j.expression_of (v.next next.entry) }
 {
     match next {
         Next::Whole(written) => written,
@@ -191,13 +187,13 @@ fn is_updated(draft: &Draft<'_>, meaning: Option<Meaning>) -> bool
     }
 }
 
+/// Whether a name outside of the expression means no register.
 fn always_misnamed(draft: &Draft<'_>, always: &Always<'_>) -> bool
-    ensures { result ≡ always_misnamed_by draft.now always.now.reset.now always.now.update.now (v.next always.now.next) }
+    ensures { result ≡ regs_misnamed_by draft.now always.now.reset.now always.now.update.now (v.next always.now.next) }
 {
     !is_reg(draft.scope.get(always.reset))
         || !is_reg(draft.scope.get(always.update))
         || !names_reg(&always.next, &draft.scope)
-        || !knows(expression_of(&always.next), &draft.scope)
 }
 
 /// The registers, where the one at this place takes this.
@@ -209,39 +205,38 @@ fn set_next(regs: &mut Vec<Reg>, place: u32, next: Bit)
     }
 }
 
-fn push_always(alloc: Global, draft: &mut Draft<'_>, always: &Always<'_>) -> Result<(), NoMemory>
-    ensures { OnOk result (Adds draft.old (g.Always always.now.reset.now always.now.zero.now always.now.update.now (v.next always.now.next)) draft.new) }
+fn push_always(draft: &mut Draft<'_>, reset: &[u8], next: Bit)
+    ensures { (z s : List ℕ) (e : g.Next) → logic next ≡ resolved_by (find draft.old.scope) (j.expression_of e) → Adds draft.old (g.Always reset.now z s e) draft.new }
 {
-    let next = resolve(alloc, expression_of(&always.next), &draft.scope)?;
-    if let Some(Meaning::Reg(r)) = draft.scope.get(always.reset) {
+    if let Some(Meaning::Reg(r)) = draft.scope.get(reset) {
         set_next(&mut draft.regs, r, next);
         set_flag(&mut draft.updated, r);
     }
-    Ok(())
 }
 
 /// Judges an always statement, and keeps what its register takes where it breaks no rule.
 pub fn read_always(
     alloc: Global,
     draft: &mut Draft<'_>,
-    always: &Always<'_>,
+    always: Always<'_>,
 ) -> Result<(), StepError>
     requires { IsOfSome draft.old }
-    ensures { Judges draft.old (g.Always always.now.reset.now always.now.zero.now always.now.update.now (v.next always.now.next)) draft.new result }
+    ensures { Judges draft.old (g.Always always.entry.reset.now always.entry.zero.now always.entry.update.now (v.next always.entry.next)) draft.new result }
 {
-    if always_misnamed(draft, always) {
+    let name = always.reset;
+    let reset = draft.scope.get(name);
+    let misnamed = always_misnamed(draft, &always);
+    let is_update = is_update_at(draft, reset, &always);
+    let judged = judge_written(alloc, expression_of(always.next), draft)?;
+    if misnamed || !judged.findings.known {
         return Err(StepError::Broken(Rule::Name));
     }
-    let reset = draft.scope.get(always.reset);
     if is_updated(draft, reset) {
         return Err(StepError::Broken(Rule::Order));
     }
-    if !fits_widths(expression_of(&always.next), &draft.scope, &draft.regs) {
+    if !judged.findings.fits || !is_update {
         return Err(StepError::Broken(Rule::Width));
     }
-    if !is_update_at(draft, reset, always) {
-        return Err(StepError::Broken(Rule::Width));
-    }
-    push_always(alloc, draft, always)?;
+    push_always(draft, name, judged.bit);
     Ok(())
 }

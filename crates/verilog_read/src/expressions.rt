@@ -1,11 +1,18 @@
-//! Measures of an expression as it is written.
-ghost use Rattle.std.specs.Prelude.{◌≡◌, false, min, slice_get, slice_index_or, IfOk};
+//! What is found out of an expression as it is written.
+ghost use Rattle.std.specs.Prelude.{◌≡◌, true, false, min, slice_get, slice_index_or, IfOk};
 ghost use Rattle.verilog_text.specs.Judging.{number_of};
 ghost use Rattle.circuit.specs.View.{logic};
 ghost use Rattle.verilog_syntax.specs.View.{expression};
-ghost use Rattle.verilog_read.specs.Known.{find, knows_by, given_by, fits_by, resolved_by, is_one_bit_reg, has_bit_reg};
+ghost use Rattle.verilog_text.specs.Grammar as g;
+ghost use Rattle.verilog_read.specs.Known.{is_one_bit_reg, has_bit_reg};
+ghost use Rattle.verilog_read.specs.Draft.{IsJudgedBy};
+ghost use Rattle.verilog_read.specs.Joined.{is_joined, join};
+ghost use Rattle.verilog_read.specs.declared.draft.Draft as source_draft;
 
-use crate::scope::{Meaning, Scope};
+use crate::draft::Draft;
+use crate::judged::{Findings, Judged};
+use crate::scope::Meaning;
+use crate::spine::spine;
 use rl_time::NoMemory;
 use std::alloc::Global;
 use verilog_syntax::Written;
@@ -22,30 +29,6 @@ pub fn number(digits: &[u8]) -> u32
     n
 }
 
-/// Whether each name is declared, and of the kind that is wanted there.
-pub fn knows(written: &Written<'_>, scope: &Scope<'_>) -> bool
-    ensures { result ≡ knows_by (find scope.now) (expression written.now) }
-{
-    match written {
-        Written::Low => true,
-        Written::High => true,
-        Written::Name(name) => match scope.get(name) {
-            Some(Meaning::Input(_)) => true,
-            Some(Meaning::Wire(_)) => true,
-            Some(Meaning::Reg(_)) => true,
-            _ => false,
-        },
-        Written::Bit(name, _) => match scope.get(name) {
-            Some(Meaning::Reg(_)) => true,
-            _ => false,
-        },
-        Written::Not(a) => knows(a, scope),
-        Written::Group(a) => knows(a, scope),
-        Written::And(a, b) => knows(a, scope) && knows(b, scope),
-        Written::Or(a, b) => knows(a, scope) && knows(b, scope),
-    }
-}
-
 /// The flag at a place, and false past the end.
 pub fn is_set(flags: &[bool], place: u32) -> bool
     ensures { result ≡ slice_index_or flags.now place false }
@@ -53,25 +36,6 @@ pub fn is_set(flags: &[bool], place: u32) -> bool
     match flags.get(place as usize) {
         Some(flag) => *flag,
         None => false,
-    }
-}
-
-/// Whether each wire that is named has an assign, by the wires' flags.
-pub fn are_given(written: &Written<'_>, scope: &Scope<'_>, flags: &[bool]) -> bool
-    ensures { result ≡ given_by (find scope.now) flags.now (expression written.now) }
-{
-    match written {
-        Written::Low => true,
-        Written::High => true,
-        Written::Name(name) => match scope.get(name) {
-            Some(Meaning::Wire(w)) => is_set(flags, w),
-            _ => true,
-        },
-        Written::Bit(_, _) => true,
-        Written::Not(a) => are_given(a, scope, flags),
-        Written::Group(a) => are_given(a, scope, flags),
-        Written::And(a, b) => are_given(a, scope, flags) && are_given(b, scope, flags),
-        Written::Or(a, b) => are_given(a, scope, flags) && are_given(b, scope, flags),
     }
 }
 
@@ -93,59 +57,110 @@ fn has_bit(regs: &[Reg], place: u32, bit: u32) -> bool
     }
 }
 
-/// Whether each register is named as its width asks.
-pub fn fits_widths(written: &Written<'_>, scope: &Scope<'_>, regs: &[Reg]) -> bool
-    ensures { result ≡ fits_by (find scope.now) regs.now (expression written.now) }
+/// A name in an expression.
+fn judge_name(name: &[u8], draft: &Draft<'_>) -> Judged
+    ensures { IsJudgedBy draft.now (g.Name name.now) result }
 {
-    match written {
-        Written::Low => true,
-        Written::High => true,
-        Written::Name(name) => match scope.get(name) {
-            Some(Meaning::Reg(r)) => is_one_bit(regs, r),
-            _ => true,
-        },
-        Written::Bit(name, digits) => match scope.get(name) {
-            Some(Meaning::Reg(r)) => has_bit(regs, r, number(digits)),
-            _ => true,
-        },
-        Written::Not(a) => fits_widths(a, scope, regs),
-        Written::Group(a) => fits_widths(a, scope, regs),
-        Written::And(a, b) => fits_widths(a, scope, regs) && fits_widths(b, scope, regs),
-        Written::Or(a, b) => fits_widths(a, scope, regs) && fits_widths(b, scope, regs),
+    let (bit, known, given, fits) = match draft.scope.get(name) {
+        Some(Meaning::Input(i)) => (Bit::Input(i), true, true, true),
+        Some(Meaning::Wire(w)) => (Bit::Wire(w), true, is_set(&draft.given_wires, w), true),
+        Some(Meaning::Reg(r)) => (Bit::Reg(r, 0), true, true, is_one_bit(&draft.regs, r)),
+        _ => (Bit::Zero, false, true, true),
+    };
+    Judged {
+        bit,
+        findings: Findings { known, given, fits },
     }
 }
 
-/// The expression, with its names looked up.
-pub fn resolve(alloc: Global, written: &Written<'_>, scope: &Scope<'_>) -> Result<Bit, NoMemory>
-    ensures { IfOk result (λ bit. logic bit ≡ resolved_by (find scope.now) (expression written.now)) }
+/// A bit of a register.
+fn judge_bit(name: &[u8], digits: &[u8], draft: &Draft<'_>) -> Judged
+    ensures { IsJudgedBy draft.now (g.Bit name.now digits.now) result }
+{
+    let (bit, known, fits) = match draft.scope.get(name) {
+        Some(Meaning::Reg(r)) => {
+            let place = number(digits);
+            (Bit::Reg(r, place), true, has_bit(&draft.regs, r, place))
+        }
+        _ => (Bit::Zero, false, true),
+    };
+    Judged {
+        bit,
+        findings: Findings {
+            known,
+            given: true,
+            fits,
+        },
+    }
+}
+
+fn constant(bit: Bit) -> Judged
+    ensures { (logic result.bit ≡ logic bit) × (result.findings.known ≡ true) × (result.findings.given ≡ true) × (result.findings.fits ≡ true) }
+{
+    Judged {
+        bit,
+        findings: Findings {
+            known: true,
+            given: true,
+            fits: true,
+        },
+    }
+}
+
+/// Two parts with `&` or `|` between them.
+fn join(alloc: Global, is_and: bool, a: Judged, b: Judged) -> Result<Judged, NoMemory>
+    ensures { IfOk result (λ x. (d : source_draft.Draft) (e f : g.Expression) → IsJudgedBy d e a → IsJudgedBy d f b → IsJudgedBy d (join is_and e f) x) }
+{
+    let findings = a.findings.and(b.findings);
+    let left = Box::new(alloc, a.bit)?;
+    let right = Box::new(alloc, b.bit)?;
+    let bit = if is_and {
+        Bit::And(left, right)
+    } else {
+        Bit::Or(left, right)
+    };
+    Ok(Judged { bit, findings })
+}
+
+/// An expression that is no `&` and no `|`.
+#[cycle(walk)]
+fn judge_single(alloc: Global, written: Written<'_>, draft: &Draft<'_>) -> Result<Judged, NoMemory>
+    requires single { is_joined (expression written) ≡ false }
+    ensures { IfOk result (IsJudgedBy draft.now (expression written.entry)) }
 {
     match written {
-        Written::Low => Ok(Bit::Zero),
-        Written::High => Ok(Bit::One),
-        Written::Name(name) => match scope.get(name) {
-            Some(Meaning::Input(i)) => Ok(Bit::Input(i)),
-            Some(Meaning::Wire(w)) => Ok(Bit::Wire(w)),
-            Some(Meaning::Reg(r)) => Ok(Bit::Reg(r, 0)),
-            _ => Ok(Bit::Zero),
-        },
-        Written::Bit(name, digits) => match scope.get(name) {
-            Some(Meaning::Reg(r)) => Ok(Bit::Reg(r, number(digits))),
-            _ => Ok(Bit::Zero),
-        },
+        Written::Low => Ok(constant(Bit::Zero)),
+        Written::High => Ok(constant(Bit::One)),
+        Written::Name(name) => Ok(judge_name(name, draft)),
+        Written::Bit(name, digits) => Ok(judge_bit(name, digits, draft)),
         Written::Not(a) => {
-            let a = resolve(alloc, a, scope)?;
-            Ok(Bit::Not(Box::new(alloc, a)?))
+            let a = judge_written(alloc, Box::into_inner(a), draft)?;
+            Ok(Judged {
+                bit: Bit::Not(Box::new(alloc, a.bit)?),
+                findings: a.findings,
+            })
         }
-        Written::Group(a) => resolve(alloc, a, scope),
-        Written::And(a, b) => {
-            let a = resolve(alloc, a, scope)?;
-            let b = resolve(alloc, b, scope)?;
-            Ok(Bit::And(Box::new(alloc, a)?, Box::new(alloc, b)?))
-        }
-        Written::Or(a, b) => {
-            let a = resolve(alloc, a, scope)?;
-            let b = resolve(alloc, b, scope)?;
-            Ok(Bit::Or(Box::new(alloc, a)?, Box::new(alloc, b)?))
-        }
+        Written::Group(a) => judge_written(alloc, Box::into_inner(a), draft),
+        Written::And(_, _) => unreachable!(),
+        Written::Or(_, _) => unreachable!(),
     }
+}
+
+/// An expression, whose names are looked up in the draft. It calls itself for what is in groups and after signs, but not
+/// for what is before a sign, so that no text needs a deep stack.
+#[cycle(walk)]
+pub fn judge_written(
+    alloc: Global,
+    written: Written<'_>,
+    draft: &Draft<'_>,
+) -> Result<Judged, NoMemory>
+    ensures { IfOk result (IsJudgedBy draft.now (expression written.entry)) }
+{
+    let (first, mut joints) = spine(alloc, written)?;
+    let mut all = judge_single(alloc, first, draft)?;
+    while let Some(joint) = joints.pop() {
+        let part = judge_written(alloc, joint.part, draft)?;
+        all = join(alloc, joint.is_and, all, part)?;
+    }
+    Ok(all)
 }

@@ -1,7 +1,6 @@
 //! The module that words are.
-ghost use Rattle.std.specs.Prelude.{◌≡◌, None, IfOk, IfErr, map};
+ghost use Rattle.std.specs.Prelude.{◌≡◌, None, IfOk, IfErr};
 ghost use Rattle.std.specs.List.{list_all};
-ghost use Rattle.rl_text.specs.Words.{lexeme};
 ghost use Rattle.verilog_text.specs.Grammar.{End};
 ghost use Rattle.verilog_syntax.specs.View.{form, statement};
 ghost use Rattle.verilog_read.specs.Draft.{IsEmpty, IsOfSome, IsReady, Judges, JudgesNext, IsWhole, is_unfinished_by};
@@ -12,7 +11,7 @@ use crate::declarations::{read_header, read_input, read_output, read_reg, read_w
 use crate::draft::{Draft, Fault, StepError};
 use crate::error::VerilogError;
 use crate::scope::Scope;
-use rl_text::Lexeme;
+use rl_text::WordsLeft;
 use rl_time::NoMemory;
 use std::alloc::Global;
 use verilog_laws::{statements_are_valid, statements_stay_sound};
@@ -69,8 +68,8 @@ fn read_form<'a>(alloc: Global, draft: &mut Draft<'a>, statement: Form<'a>) -> R
         Form::Output(name) => read_output(alloc, draft, name),
         Form::Wire(name) => read_wire(alloc, draft, name),
         Form::Reg(last, name) => read_reg(alloc, draft, last, name),
-        Form::Assign(name, written) => read_assign(alloc, draft, name, &written),
-        Form::Always(always) => read_always(alloc, draft, &always),
+        Form::Assign(name, written) => read_assign(alloc, draft, name, written),
+        Form::Always(always) => read_always(alloc, draft, Box::into_inner(always)),
         Form::End => read_end(draft),
     }
 }
@@ -130,19 +129,22 @@ fn no_statements<'a>(alloc: Global) -> Draft<'a>
 
 /// What all statements together are, or what is wrong first: the syntax of all words, and then the rules, statement by
 /// statement. Each statement is let go once it is judged. `end` is the line of the text's end.
-fn read_all<'a>(alloc: Global, words: &[Lexeme<'a>], end: u32) -> Result<Draft<'a>, VerilogError>
-    ensures { IsWhole (map lexeme words.now) end result }
+fn read_all<'a>(
+    alloc: Global,
+    words: &mut WordsLeft<'a>,
+    end: u32,
+) -> Result<Draft<'a>, VerilogError>
+    ensures { IsWhole words.old end result }
 {
     statements_stay_sound();
     let mut draft = no_statements(alloc);
-    let (first, mut rest) = next_statement(alloc, words, Stage::Start, end)?;
+    let first = next_statement(alloc, words, Stage::Start, end)?;
     let mut current = Stage::after(&first.form);
     let mut broken = judge_next(alloc, &mut draft, None, first)?;
     while !current.is_finished() {
-        let (next, after) = next_statement(alloc, rest, current, end)?;
+        let next = next_statement(alloc, words, current, end)?;
         current = Stage::after(&next.form);
         broken = judge_next(alloc, &mut draft, broken, next)?;
-        rest = after;
     }
     match broken {
         Some(fault) => Err(error_of(fault.rule, fault.line)),
@@ -151,9 +153,9 @@ fn read_all<'a>(alloc: Global, words: &[Lexeme<'a>], end: u32) -> Result<Draft<'
 }
 
 /// The module that these words are, or what is wrong with them first. `end` is the line of the text's end.
-pub fn judge(alloc: Global, words: &[Lexeme<'_>], end: u32) -> Result<Module, VerilogError>
-    ensures module { IfOk result (AreWordsOfModule (map lexeme words.now)) }
-    ensures cause { IfErr result (λ e. Names e (Fails (map lexeme words.now) end)) }
+pub fn judge(alloc: Global, words: &mut WordsLeft<'_>, end: u32) -> Result<Module, VerilogError>
+    ensures module { IfOk result (AreWordsOfModule words.old) }
+    ensures cause { IfErr result (λ e. Names e (Fails words.old end)) }
 {
     statements_are_valid();
     let draft = match read_all(alloc, words, end) {

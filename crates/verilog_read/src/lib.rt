@@ -8,10 +8,13 @@ mod declarations;
 mod draft;
 mod error;
 mod expressions;
+mod joint;
+mod judged;
 mod judging;
 mod names;
 mod reader;
 mod scope;
+mod spine;
 
 pub use error::VerilogError;
 pub use reader::read_module;

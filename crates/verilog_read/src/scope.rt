@@ -4,7 +4,7 @@ ghost use Rattle.verilog_read.specs.Known.{find, AddsName};
 use std::alloc::{AllocError, Global};
 use std::collections::BTreeMap;
 
-/// What a declared name stands for: the clock or the reset; an input, an output, a wire or a register, by its place.
+/// What a declared name means: the clock or the reset; an input, an output, a wire or a register, by its place.
 #[derive(Clone, Copy, Debug, PartialEq, Eq)]
 pub enum Meaning {
     ClockOrReset,
@@ -30,7 +30,7 @@ impl<'a> Scope<'a> {
         }
     }
 
-    /// What the name stands for, where it is declared.
+    /// What the name means, where it is declared.
     pub fn get(&self, name: &[u8]) -> Option<Meaning>
         ensures { result ≡ find self.now name.now }
     {

@@ -6,15 +6,13 @@ use Rattle.verilog_text.specs.Grammar.{Expression, And, Or}
 use Rattle.verilog_text.specs.Reading.{Read, ◌>>=◌, is_symbol, begins, after, chain, product, sum}
 use Rattle.verilog_syntax.specs.declared.error.ReadError.{ReadError}
 use Rattle.verilog_syntax.specs.declared.error.ReadError.TheVariants.{Syntax, NoMemory}
-use Rattle.verilog_syntax.specs.Reads.{Gives, lexemes}
+use Rattle.verilog_syntax.specs.Reads.{Gives}
 use Rattle.verilog_syntax.specs.View.{expression}
 use Rattle.verilog_syntax.specs.declared.written.Written.{Written}
-use Rattle.rl_text.specs.declared.words.Lexeme as source
-use denote.Bor.{Bor}
 
--- what an expression and the words after it are
-abbrev pub seen : Written × Bor (List source.Lexeme) → Expression × List Lexeme
-seen x = (expression x.0, lexemes x.1.now)
+-- what an expression that is read and the words after it are
+abbrev pub seen : List Lexeme → Written → Expression × List Lexeme
+seen after x = (expression x, after)
 
 tested_none : {A : Type 0} (b : Bool) (x : A) → cond b (Some x) None ≡ None → b ≡ false
 tested_none true x e = absurd cc
@@ -50,35 +48,37 @@ module _ (t : List ℕ) (join : Expression → Expression → Expression) (part 
       let step : chain t join part (suc (63 - (i + 1))) a ls ≡ chain t join part (63 - (i + 1)) (join a b) rest = goes (63 - (i + 1)) a ls mid e ∙ ap (λ o. o >>= (λ b. chain t join part (63 - (i + 1)) (join a b.0) b.1)) h in
       sym step ∙ sym (ap (λ (n : ℕ). chain t join part n a ls) k) ∙ so_far
 
-  pub chain_fails : (f : ReadError) (i : ℕ) (a : Expression) (ls mid : List Lexeme) (total : Read Expression) → i < 63 → after is_symbol t ls ≡ Some mid → Gives seen (Err f) (part mid)
-      → chain t join part (63 - i) a ls ≡ total → Gives seen (Err f) total
-  chain_fails NoMemory i a ls mid total lt e h so_far = tt
-  chain_fails Syntax i a ls mid total lt e h so_far =
+  pub chain_fails : (after_it : List Lexeme) (f : ReadError) (i : ℕ) (a : Expression) (ls mid : List Lexeme) (total : Read Expression) → i < 63 → after is_symbol t ls ≡ Some mid → Gives (seen after_it) (Err f) (part mid)
+      → chain t join part (63 - i) a ls ≡ total → Gives (seen after_it) (Err f) total
+  chain_fails after_it NoMemory i a ls mid total lt e h so_far = tt
+  chain_fails after_it Syntax i a ls mid total lt e h so_far =
       let k : 63 - i ≡ suc (63 - (i + 1)) = omega arith in
       let step : chain t join part (suc (63 - (i + 1))) a ls ≡ None = goes (63 - (i + 1)) a ls mid e ∙ ap (λ o. o >>= (λ b. chain t join part (63 - (i + 1)) (join a b.0) b.1)) h in
       sym so_far ∙ ap (λ (n : ℕ). chain t join part n a ls) k ∙ step
 
-  pub chain_full : (i : ℕ) (a : Expression) (ls mid : List Lexeme) (total : Read Expression) → 63 ≤ i → after is_symbol t ls ≡ Some mid → chain t join part (63 - i) a ls ≡ total → total ≡ None
-  chain_full i a ls mid total le e so_far =
+  pub chain_ends : (i : ℕ) (a : Expression) (ls : List Lexeme) (total : Read Expression) → begins is_symbol t ls ≡ false → chain t join part (63 - i) a ls ≡ total → total ≡ Some (a, ls)
+  chain_ends i a ls total h so_far = sym so_far ∙ stops (63 - i) a ls h
+
+  pub chain_full : (i : ℕ) (a : Expression) (ls : List Lexeme) (total : Read Expression) → 63 ≤ i → begins is_symbol t ls ≡ true → chain t join part (63 - i) a ls ≡ total → total ≡ None
+  chain_full i a ls total le h so_far =
       let k : 63 - i ≡ 0 = omega arith in
-      let h = has t ls mid e in
-      let step : chain t join part 0 a ls ≡ None = rw h.0 refl in
+      let step : chain t join part 0 a ls ≡ None = rw h refl in
       sym so_far ∙ ap (λ (n : ℕ). chain t join part n a ls) k ∙ step
 
 pub product_first : (part : List Lexeme → Read Expression) (a : Expression) (ls rest : List Lexeme) → part ls ≡ Some (a, rest) → chain (codes "&") And part (63 - 0) a rest ≡ product part ls
 unfolding product
 product_first part a ls rest e = rw e refl
 
-pub product_fails : (f : ReadError) (part : List Lexeme → Read Expression) (ls : List Lexeme) → Gives seen (Err f) (part ls) → Gives seen (Err f) (product part ls)
+pub product_fails : (after_it : List Lexeme) (f : ReadError) (part : List Lexeme → Read Expression) (ls : List Lexeme) → Gives (seen after_it) (Err f) (part ls) → Gives (seen after_it) (Err f) (product part ls)
 unfolding product
-product_fails NoMemory part ls e = tt
-product_fails Syntax part ls e = rw e refl
+product_fails after_it NoMemory part ls e = tt
+product_fails after_it Syntax part ls e = rw e refl
 
 pub sum_first : (part : List Lexeme → Read Expression) (a : Expression) (ls rest : List Lexeme) → product part ls ≡ Some (a, rest) → chain (codes "|") Or (product part) (63 - 0) a rest ≡ sum part ls
 unfolding sum
 sum_first part a ls rest e = rw e refl
 
-pub sum_fails : (f : ReadError) (part : List Lexeme → Read Expression) (ls : List Lexeme) → Gives seen (Err f) (product part ls) → Gives seen (Err f) (sum part ls)
+pub sum_fails : (after_it : List Lexeme) (f : ReadError) (part : List Lexeme → Read Expression) (ls : List Lexeme) → Gives (seen after_it) (Err f) (product part ls) → Gives (seen after_it) (Err f) (sum part ls)
 unfolding sum
-sum_fails NoMemory part ls e = tt
-sum_fails Syntax part ls e = rw e refl
+sum_fails after_it NoMemory part ls e = tt
+sum_fails after_it Syntax part ls e = rw e refl

@@ -3,12 +3,11 @@ use Rattle.std.proofs.Common.{Vec, Global, ◌≡◌, ℕ, suc, ◌<◌, Bool, t
 use Rattle.std.specs.Prelude.{codes, drop, map}
 use Rattle.std.proofs.lemmas.List.{append-nil}
 use denote.Bor.{Bor}
-use Rattle.rl_text.specs.declared.words.Lexeme as source
 use Rattle.rl_text.specs.Lexemes.{Lexeme}
 use Rattle.verilog_text.specs.Reading.{Read, ◌>>=◌, is_name, is_symbol, begins, after, name_at, bytes_at, more_names, names_at}
 use Rattle.verilog_syntax.specs.declared.error.ReadError.{ReadError}
 use Rattle.verilog_syntax.specs.declared.error.ReadError.TheVariants.{Syntax, NoMemory}
-use Rattle.verilog_syntax.specs.Reads.{Gives, lexemes}
+use Rattle.verilog_syntax.specs.Reads.{Gives}
 use Rattle.verilog_syntax.proofs.Chains.{lacks, has}
 
 -- the names that were read before, and those that are still read
@@ -16,11 +15,11 @@ abbrev pub with_front : List (List ℕ) → Read (List (List ℕ)) → Read (Lis
 with_front front read = read >>= λ x. Some (front ++ x.0, x.1)
 
 -- what a name, or names, and the words after them are
-abbrev seen_name : Bor (List ℕ) × Bor (List source.Lexeme) → List ℕ × List Lexeme
-seen_name x = (x.0.now, lexemes x.1.now)
+abbrev pub seen_name : List Lexeme → Bor (List ℕ) → List ℕ × List Lexeme
+seen_name after_it x = (x.now, after_it)
 
-abbrev seen_names : Vec (Bor (List ℕ)) Global × Bor (List source.Lexeme) → List (List ℕ) × List Lexeme
-seen_names x = (map (λ (n : Bor (List ℕ)). n.now) x.0.items, lexemes x.1.now)
+abbrev pub seen_names : List Lexeme → Vec (Bor (List ℕ)) Global → List (List ℕ) × List Lexeme
+seen_names after_it x = (map (λ (n : Bor (List ℕ)). n.now) x.items, after_it)
 
 none_left : (ls : List Lexeme) → begins is_symbol (codes ",") ls ≡ false → more_names ls ≡ Some ([], ls)
 none_left [] h = refl
@@ -70,10 +69,10 @@ pub names_first : (n : List ℕ) (ls rest : List Lexeme) → name_at ls ≡ Some
 unfolding names_at
 names_first n ls rest e = rw e refl
 
-pub names_none : (f : ReadError) (ls : List Lexeme) → Gives seen_name (Err f) (name_at ls) → Gives seen_names (Err f) (names_at ls)
+pub names_none : (after_it : List Lexeme) (f : ReadError) (ls : List Lexeme) → Gives (seen_name after_it) (Err f) (name_at ls) → Gives (seen_names after_it) (Err f) (names_at ls)
 unfolding names_at
-names_none NoMemory ls e = tt
-names_none Syntax ls e = rw e refl
+names_none after_it NoMemory ls e = tt
+names_none after_it Syntax ls e = rw e refl
 
 pub names_done : (front : List (List ℕ)) (ls : List Lexeme) (total : Read (List (List ℕ))) → after is_symbol (codes ",") ls ≡ None → with_front front (more_names ls) ≡ total → total ≡ Some (front, ls)
 names_done front ls total e so_far =
@@ -85,18 +84,14 @@ names_go front n ls mid rest total e h so_far =
     let g = has (codes ",") ls mid e in
     sym (regroup front n (more_names rest)) ∙ sym (ap (with_front front) (one_more ls mid rest n g.0 g.1 h)) ∙ so_far
 
-pub names_fail : (f : ReadError) (front : List (List ℕ)) (ls mid : List Lexeme) (total : Read (List (List ℕ))) → after is_symbol (codes ",") ls ≡ Some mid → Gives seen_name (Err f) (name_at mid)
-    → with_front front (more_names ls) ≡ total → Gives seen_names (Err f) total
-names_fail NoMemory front ls mid total e h so_far = tt
-names_fail Syntax front ls mid total e h so_far =
+pub names_fail : (after_it : List Lexeme) (f : ReadError) (front : List (List ℕ)) (ls mid : List Lexeme) (total : Read (List (List ℕ))) → after is_symbol (codes ",") ls ≡ Some mid → Gives (seen_name after_it) (Err f) (name_at mid)
+    → with_front front (more_names ls) ≡ total → Gives (seen_names after_it) (Err f) total
+names_fail after_it NoMemory front ls mid total e h so_far = tt
+names_fail after_it Syntax front ls mid total e h so_far =
     let g = has (codes ",") ls mid e in
     sym so_far ∙ ap (with_front front) (no_more ls mid g.0 g.1 h)
 
 -- ---- what was read is taken away
-
-pub same_length : (ws : List source.Lexeme) → length (lexemes ws) ≡ length ws
-same_length [] = refl
-same_length (w ∷ ws) = ap suc (same_length ws)
 
 drop_short : (ls mid : List Lexeme) → begins is_symbol (codes ",") ls ≡ true → drop 1 ls ≡ mid → suc (length mid) ≡ length ls
 unfolding begins
@@ -108,9 +103,9 @@ unfolding bytes_at
 name_short [] rest n e = absurd cc
 name_short (l ∷ ls) rest n e = ap (λ (k : List Lexeme). suc (length k)) (sym (named l ls rest n e).2)
 
-pub shorter : (ws behind rest : List source.Lexeme) (n : List ℕ) → after is_symbol (codes ",") (lexemes ws) ≡ Some (lexemes behind) → name_at (lexemes behind) ≡ Some (n, lexemes rest) → length rest < length ws
-shorter ws behind rest n e h =
-    let g = has (codes ",") (lexemes ws) (lexemes behind) e in
-    let a = drop_short (lexemes ws) (lexemes behind) g.0 g.1 in
-    let b = name_short (lexemes behind) (lexemes rest) n h in
-    omega (arith, a, b, same_length ws, same_length behind, same_length rest)
+pub shorter : (ls mid rest : List Lexeme) (n : List ℕ) → after is_symbol (codes ",") ls ≡ Some mid → name_at mid ≡ Some (n, rest) → length rest < length ls
+shorter ls mid rest n e h =
+    let g = has (codes ",") ls mid e in
+    let a = drop_short ls mid g.0 g.1 in
+    let b = name_short mid rest n h in
+    omega (arith, a, b)

@@ -1,7 +1,5 @@
 -- What the parts of the parser answer.
-use Rattle.std.specs.Prelude.{◌≡◌, ℕ, Bool, true, false, List, map, Option, Some, None, Result, Ok, Err}
-use Rattle.rl_text.specs.declared.words.Lexeme as source
-use Rattle.rl_text.specs.Words.{lexeme}
+use Rattle.std.specs.Prelude.{◌≡◌, ℕ, Bool, true, false, List, Option, Some, None, Result, Ok, Err}
 use Rattle.rl_text.specs.Lexemes.{Lexeme}
 use Rattle.verilog_text.specs.Statements.{Statement, Stage, Start, Declarations, Actions, Finished, Opens, first_line}
 use Rattle.verilog_syntax.specs.declared.stage.Stage as source_stage
@@ -10,9 +8,6 @@ use Rattle.verilog_syntax.specs.declared.error.SyntaxError.{SyntaxError}
 use Rattle.verilog_syntax.specs.declared.error.SyntaxError.TheVariants as syntax_error
 use Rattle.verilog_syntax.specs.declared.error.ReadError.{ReadError}
 use Rattle.verilog_syntax.specs.declared.error.ReadError.TheVariants.{Syntax, NoMemory}
-
-abbrev pub lexemes : List source.Lexeme → List Lexeme
-lexemes ls = map lexeme ls
 
 abbrev pub stage : source_stage.Stage → Stage
 stage st.Start = Start

@@ -1,252 +1,241 @@
 //! Statements at the front of words.
 ghost use Rattle.std.specs.Prelude.{◌≡◌, map};
 ghost use Rattle.verilog_text.specs.Reading.{range_at, shifted_at, next_at, names_at, header_at, declared_at, ranged_at, reg_at, assign_at, after_edge, after_reset, zeroed_at, update_at, always_at, end_at, by_word, form_at};
-ghost use Rattle.verilog_syntax.specs.Reads.{lexemes, Gives};
+ghost use Rattle.verilog_syntax.specs.Reads.{Gives};
 ghost use Rattle.verilog_syntax.specs.View.{form, next};
 
 use crate::error::ReadError;
 use crate::statement::{Always, Form};
 use crate::syntax::expression;
-use crate::words::{after_name, after_number, after_sign, behind_sign, bits, name, number};
+use crate::words::{bits, name, number, pass_name, pass_number, pass_sign, starts, take_sign};
 use crate::written::Next;
-use rl_text::{Kind, Lexeme};
+use rl_text::{Kind, WordsLeft};
 use std::alloc::Global;
-
-type Found<'t, 'a, T> = Result<(T, &'t [Lexeme<'a>]), ReadError>;
 
 /// `[m:0]`
 #[tactic(auto, unfolding(verilog_text::specs::Reading::range_at))]
-fn range<'t, 'a>(ws: &'t [Lexeme<'a>]) -> Found<'t, 'a, &'a [u8]>
-    ensures { Gives (λ x. (x.0.now, lexemes x.1.now)) result (range_at (lexemes ws.now)) }
+fn range<'a>(words: &mut WordsLeft<'a>) -> Result<&'a [u8], ReadError>
+    ensures { Gives (λ x. (x.now, words.new)) result (range_at words.old) }
 {
-    let rest = after_sign(ws, b"[")?;
-    let (last, rest) = number(rest)?;
-    let rest = after_sign(rest, b":")?;
-    let rest = after_number(rest, b"0")?;
-    let rest = after_sign(rest, b"]")?;
-    Ok((last, rest))
+    pass_sign(words, b"[")?;
+    let last = number(words)?;
+    pass_sign(words, b":")?;
+    pass_number(words, b"0")?;
+    pass_sign(words, b"]")?;
+    Ok(last)
 }
 
 /// `{r[k:0], e}`
 #[tactic(auto, unfolding(verilog_text::specs::Reading::shifted_at))]
-fn shifted<'t, 'a>(alloc: Global, ws: &'t [Lexeme<'a>]) -> Found<'t, 'a, Next<'a>>
-    ensures { Gives (λ x. (next x.0, lexemes x.1.now)) result (shifted_at (lexemes ws.now)) }
+fn shifted<'a>(alloc: Global, words: &mut WordsLeft<'a>) -> Result<Next<'a>, ReadError>
+    ensures { Gives (λ x. (next x, words.new)) result (shifted_at words.old) }
 {
-    let rest = after_sign(ws, b"{")?;
-    let (reg, rest) = name(rest)?;
-    let (last, rest) = range(rest)?;
-    let rest = after_sign(rest, b",")?;
-    let (body, rest) = expression(alloc, rest)?;
-    let rest = after_sign(rest, b"}")?;
-    Ok((Next::Shifted(reg, last, body), rest))
+    pass_sign(words, b"{")?;
+    let reg = name(words)?;
+    let last = range(words)?;
+    pass_sign(words, b",")?;
+    let body = expression(alloc, words)?;
+    pass_sign(words, b"}")?;
+    Ok(Next::Shifted(reg, last, body))
 }
 
 /// What a register takes.
-#[tactic(auto, unfolding(verilog_text::specs::Reading::next_at, verilog_text::specs::Reading::after))]
-fn next<'t, 'a>(alloc: Global, ws: &'t [Lexeme<'a>]) -> Found<'t, 'a, Next<'a>>
-    ensures { Gives (λ x. (next x.0, lexemes x.1.now)) result (next_at (lexemes ws.now)) }
+#[tactic(auto, unfolding(verilog_text::specs::Reading::next_at))]
+fn next<'a>(alloc: Global, words: &mut WordsLeft<'a>) -> Result<Next<'a>, ReadError>
+    ensures { Gives (λ x. (next x, words.new)) result (next_at words.old) }
 {
-    match behind_sign(ws, b"{") {
-        Some(_) => shifted(alloc, ws),
-        None => {
-            let (body, rest) = expression(alloc, ws)?;
-            Ok((Next::Whole(body), rest))
-        }
+    if starts(words, b"{") {
+        shifted(alloc, words)
+    } else {
+        let body = expression(alloc, words)?;
+        Ok(Next::Whole(body))
     }
 }
 
 /// Names with commas between them.
-fn names<'t, 'a>(alloc: Global, ws: &'t [Lexeme<'a>]) -> Found<'t, 'a, Vec<&'a [u8]>>
-    ensures { Gives (λ x. (map (λ n. n.now) x.0.items, lexemes x.1.now)) result (names_at (lexemes ws.now)) }
+fn names<'a>(alloc: Global, words: &mut WordsLeft<'a>) -> Result<Vec<&'a [u8]>, ReadError>
+    ensures { Gives (λ x. (map (λ n. n.now) x.items, words.new)) result (names_at words.old) }
 {
-    let (first, mut rest) = name(ws)?;
+    let first = name(words)?;
     let mut all = Vec::new(alloc);
     all.push(first)?;
-    while let Some(behind) = behind_sign(rest, b",") {
-        let (next, after) = name(behind)?;
+    while take_sign(words, b",") {
+        let next = name(words)?;
         all.push(next)?;
-        rest = after;
     }
-    Ok((all, rest))
+    Ok(all)
 }
 
 /// What `module` begins.
 #[tactic(auto, unfolding(verilog_text::specs::Reading::header_at))]
-fn header<'t, 'a>(alloc: Global, ws: &'t [Lexeme<'a>]) -> Found<'t, 'a, Form<'a>>
-    ensures { Gives (λ x. (form x.0, lexemes x.1.now)) result (header_at (lexemes ws.now)) }
+fn header<'a>(alloc: Global, words: &mut WordsLeft<'a>) -> Result<Form<'a>, ReadError>
+    ensures { Gives (λ x. (form x, words.new)) result (header_at words.old) }
 {
-    let (module, rest) = name(ws)?;
-    let rest = after_sign(rest, b"(")?;
-    let (ports, rest) = names(alloc, rest)?;
-    let rest = after_sign(rest, b")")?;
-    let rest = after_sign(rest, b";")?;
-    Ok((Form::Header(module, ports), rest))
+    let module = name(words)?;
+    pass_sign(words, b"(")?;
+    let ports = names(alloc, words)?;
+    pass_sign(words, b")")?;
+    pass_sign(words, b";")?;
+    Ok(Form::Header(module, ports))
 }
 
 /// A name and a semicolon.
 #[tactic(auto, unfolding(verilog_text::specs::Reading::declared_at))]
-fn declared<'t, 'a>(ws: &'t [Lexeme<'a>]) -> Found<'t, 'a, &'a [u8]>
-    ensures { Gives (λ x. (x.0.now, lexemes x.1.now)) result (declared_at (lexemes ws.now)) }
+fn declared<'a>(words: &mut WordsLeft<'a>) -> Result<&'a [u8], ReadError>
+    ensures { Gives (λ x. (x.now, words.new)) result (declared_at words.old) }
 {
-    let (text, rest) = name(ws)?;
-    let rest = after_sign(rest, b";")?;
-    Ok((text, rest))
+    let text = name(words)?;
+    pass_sign(words, b";")?;
+    Ok(text)
 }
 
 /// A range, a name and a semicolon.
 #[tactic(auto, unfolding(verilog_text::specs::Reading::ranged_at))]
-fn ranged<'t, 'a>(ws: &'t [Lexeme<'a>]) -> Found<'t, 'a, Form<'a>>
-    ensures { Gives (λ x. (form x.0, lexemes x.1.now)) result (ranged_at (lexemes ws.now)) }
+fn ranged<'a>(words: &mut WordsLeft<'a>) -> Result<Form<'a>, ReadError>
+    ensures { Gives (λ x. (form x, words.new)) result (ranged_at words.old) }
 {
-    let (last, rest) = range(ws)?;
-    let (text, rest) = declared(rest)?;
-    Ok((Form::Reg(Some(last), text), rest))
+    let last = range(words)?;
+    let text = declared(words)?;
+    Ok(Form::Reg(Some(last), text))
 }
 
 /// What `reg` begins.
-#[tactic(auto, unfolding(verilog_text::specs::Reading::reg_at, verilog_text::specs::Reading::after))]
-fn reg<'t, 'a>(ws: &'t [Lexeme<'a>]) -> Found<'t, 'a, Form<'a>>
-    ensures { Gives (λ x. (form x.0, lexemes x.1.now)) result (reg_at (lexemes ws.now)) }
+#[tactic(auto, unfolding(verilog_text::specs::Reading::reg_at))]
+fn reg<'a>(words: &mut WordsLeft<'a>) -> Result<Form<'a>, ReadError>
+    ensures { Gives (λ x. (form x, words.new)) result (reg_at words.old) }
 {
-    match behind_sign(ws, b"[") {
-        Some(_) => ranged(ws),
-        None => {
-            let (text, rest) = declared(ws)?;
-            Ok((Form::Reg(None, text), rest))
-        }
+    if starts(words, b"[") {
+        ranged(words)
+    } else {
+        let text = declared(words)?;
+        Ok(Form::Reg(None, text))
     }
 }
 
 /// What `assign` begins.
 #[tactic(auto, unfolding(verilog_text::specs::Reading::assign_at))]
-fn assign<'t, 'a>(alloc: Global, ws: &'t [Lexeme<'a>]) -> Found<'t, 'a, Form<'a>>
-    ensures { Gives (λ x. (form x.0, lexemes x.1.now)) result (assign_at (lexemes ws.now)) }
+fn assign<'a>(alloc: Global, words: &mut WordsLeft<'a>) -> Result<Form<'a>, ReadError>
+    ensures { Gives (λ x. (form x, words.new)) result (assign_at words.old) }
 {
-    let (target, rest) = name(ws)?;
-    let rest = after_sign(rest, b"=")?;
-    let (body, rest) = expression(alloc, rest)?;
-    let rest = after_sign(rest, b";")?;
-    Ok((Form::Assign(target, body), rest))
+    let target = name(words)?;
+    pass_sign(words, b"=")?;
+    let body = expression(alloc, words)?;
+    pass_sign(words, b";")?;
+    Ok(Form::Assign(target, body))
 }
 
-/// The words after `@(posedge clk)`.
+/// Takes `@(posedge clk)`.
 #[tactic(auto, unfolding(verilog_text::specs::Reading::after_edge))]
-fn after_edge<'t, 'a>(ws: &'t [Lexeme<'a>]) -> Result<&'t [Lexeme<'a>], ReadError>
-    ensures { Gives (λ x. lexemes x.now) result (after_edge (lexemes ws.now)) }
+fn pass_edge(words: &mut WordsLeft<'_>) -> Result<(), ReadError>
+    ensures { Gives (λ _. words.new) result (after_edge words.old) }
 {
-    let rest = after_sign(ws, b"@")?;
-    let rest = after_sign(rest, b"(")?;
-    let rest = after_name(rest, b"posedge")?;
-    let rest = after_name(rest, b"clk")?;
-    after_sign(rest, b")")
+    pass_sign(words, b"@")?;
+    pass_sign(words, b"(")?;
+    pass_name(words, b"posedge")?;
+    pass_name(words, b"clk")?;
+    pass_sign(words, b")")
 }
 
-/// The words after `if (rst)`.
+/// Takes `if (rst)`.
 #[tactic(auto, unfolding(verilog_text::specs::Reading::after_reset))]
-fn after_reset<'t, 'a>(ws: &'t [Lexeme<'a>]) -> Result<&'t [Lexeme<'a>], ReadError>
-    ensures { Gives (λ x. lexemes x.now) result (after_reset (lexemes ws.now)) }
+fn pass_reset(words: &mut WordsLeft<'_>) -> Result<(), ReadError>
+    ensures { Gives (λ _. words.new) result (after_reset words.old) }
 {
-    let rest = after_name(ws, b"if")?;
-    let rest = after_sign(rest, b"(")?;
-    let rest = after_name(rest, b"rst")?;
-    after_sign(rest, b")")
+    pass_name(words, b"if")?;
+    pass_sign(words, b"(")?;
+    pass_name(words, b"rst")?;
+    pass_sign(words, b")")
 }
 
 /// `r <= z; else`
 #[tactic(auto, unfolding(verilog_text::specs::Reading::zeroed_at))]
-fn zeroed<'t, 'a>(ws: &'t [Lexeme<'a>]) -> Found<'t, 'a, (&'a [u8], &'a [u8])>
-    ensures { Gives (λ x. ((x.0.0.now, x.0.1.now), lexemes x.1.now)) result (zeroed_at (lexemes ws.now)) }
+fn zeroed<'a>(words: &mut WordsLeft<'a>) -> Result<(&'a [u8], &'a [u8]), ReadError>
+    ensures { Gives (λ x. ((x.0.now, x.1.now), words.new)) result (zeroed_at words.old) }
 {
-    let (reset, rest) = name(ws)?;
-    let rest = after_sign(rest, b"<=")?;
-    let (zero, rest) = bits(rest)?;
-    let rest = after_sign(rest, b";")?;
-    let rest = after_name(rest, b"else")?;
-    Ok(((reset, zero), rest))
+    let reset = name(words)?;
+    pass_sign(words, b"<=")?;
+    let zero = bits(words)?;
+    pass_sign(words, b";")?;
+    pass_name(words, b"else")?;
+    Ok((reset, zero))
 }
 
 /// `s <= e;`
 #[tactic(auto, unfolding(verilog_text::specs::Reading::update_at))]
-fn update<'t, 'a>(alloc: Global, ws: &'t [Lexeme<'a>]) -> Found<'t, 'a, (&'a [u8], Next<'a>)>
-    ensures { Gives (λ x. ((x.0.0.now, next x.0.1), lexemes x.1.now)) result (update_at (lexemes ws.now)) }
+fn update<'a>(alloc: Global, words: &mut WordsLeft<'a>) -> Result<(&'a [u8], Next<'a>), ReadError>
+    ensures { Gives (λ x. ((x.0.now, next x.1), words.new)) result (update_at words.old) }
 {
-    let (update, rest) = name(ws)?;
-    let rest = after_sign(rest, b"<=")?;
-    let (body, rest) = next(alloc, rest)?;
-    let rest = after_sign(rest, b";")?;
-    Ok(((update, body), rest))
+    let update = name(words)?;
+    pass_sign(words, b"<=")?;
+    let body = next(alloc, words)?;
+    pass_sign(words, b";")?;
+    Ok((update, body))
 }
 
 /// What `always` begins.
 #[tactic(auto, unfolding(verilog_text::specs::Reading::always_at))]
-fn always<'t, 'a>(alloc: Global, ws: &'t [Lexeme<'a>]) -> Found<'t, 'a, Form<'a>>
-    ensures { Gives (λ x. (form x.0, lexemes x.1.now)) result (always_at (lexemes ws.now)) }
+fn always<'a>(alloc: Global, words: &mut WordsLeft<'a>) -> Result<Form<'a>, ReadError>
+    ensures { Gives (λ x. (form x, words.new)) result (always_at words.old) }
 {
-    let rest = after_edge(ws)?;
-    let rest = after_reset(rest)?;
-    let ((reset, zero), rest) = zeroed(rest)?;
-    let ((update, next), rest) = update(alloc, rest)?;
+    pass_edge(words)?;
+    pass_reset(words)?;
+    let (reset, zero) = zeroed(words)?;
+    let (update, next) = update(alloc, words)?;
     let always = Always {
         reset,
         zero,
         update,
         next,
     };
-    Ok((Form::Always(Box::new(alloc, always)?), rest))
+    Ok(Form::Always(Box::new(alloc, always)?))
 }
 
 /// What `endmodule` begins: the end of the text.
 #[tactic(auto, unfolding(verilog_text::specs::Reading::end_at))]
-fn end<'t, 'a>(ws: &'t [Lexeme<'a>]) -> Found<'t, 'a, Form<'a>>
-    ensures { Gives (λ x. (form x.0, lexemes x.1.now)) result (end_at (lexemes ws.now)) }
+fn end<'a>(words: &mut WordsLeft<'a>) -> Result<Form<'a>, ReadError>
+    ensures { Gives (λ x. (form x, words.new)) result (end_at words.old) }
 {
-    match ws {
-        [] => Ok((Form::End, ws)),
-        [_, ..] => Err(ReadError::Syntax),
+    match words.next() {
+        None => Ok(Form::End),
+        Some(_) => Err(ReadError::Syntax),
     }
 }
 
 /// What a word begins.
-fn by_word<'t, 'a>(alloc: Global, word: &[u8], ws: &'t [Lexeme<'a>]) -> Found<'t, 'a, Form<'a>>
-    ensures { Gives (λ x. (form x.0, lexemes x.1.now)) result (by_word word.now (lexemes ws.now)) }
+fn by_word<'a>(alloc: Global, word: &[u8], words: &mut WordsLeft<'a>) -> Result<Form<'a>, ReadError>
+    ensures { Gives (λ x. (form x, words.new)) result (by_word word.now words.old) }
 {
     if word == b"module".as_slice() {
-        header(alloc, ws)
+        header(alloc, words)
     } else if word == b"input".as_slice() {
-        let (text, rest) = declared(ws)?;
-        Ok((Form::Input(text), rest))
+        let text = declared(words)?;
+        Ok(Form::Input(text))
     } else if word == b"output".as_slice() {
-        let (text, rest) = declared(ws)?;
-        Ok((Form::Output(text), rest))
+        let text = declared(words)?;
+        Ok(Form::Output(text))
     } else if word == b"wire".as_slice() {
-        let (text, rest) = declared(ws)?;
-        Ok((Form::Wire(text), rest))
+        let text = declared(words)?;
+        Ok(Form::Wire(text))
     } else if word == b"reg".as_slice() {
-        reg(ws)
+        reg(words)
     } else if word == b"assign".as_slice() {
-        assign(alloc, ws)
+        assign(alloc, words)
     } else if word == b"always".as_slice() {
-        always(alloc, ws)
+        always(alloc, words)
     } else if word == b"endmodule".as_slice() {
-        end(ws)
+        end(words)
     } else {
         Err(ReadError::Syntax)
     }
 }
 
-/// The statement at the front, and the words after it.
+/// Takes the statement at the front.
 #[tactic(auto, unfolding(verilog_text::specs::Reading::form_at))]
-pub fn form<'t, 'a>(alloc: Global, ws: &'t [Lexeme<'a>]) -> Found<'t, 'a, Form<'a>>
-    ensures { Gives (λ x. (form x.0, lexemes x.1.now)) result (form_at (lexemes ws.now)) }
+pub fn form<'a>(alloc: Global, words: &mut WordsLeft<'a>) -> Result<Form<'a>, ReadError>
+    ensures { Gives (λ x. (form x, words.new)) result (form_at words.old) }
 {
-    match ws {
-        [] => Err(ReadError::Syntax),
-        [w, rest @ ..] => {
-            if matches!(w.kind, Kind::Name) {
-                by_word(alloc, w.bytes, rest)
-            } else {
-                Err(ReadError::Syntax)
-            }
-        }
+    match words.next() {
+        Some(w) if matches!(w.kind, Kind::Name) => by_word(alloc, w.bytes, words),
+        _ => Err(ReadError::Syntax),
     }
 }

@@ -4,13 +4,13 @@ ghost use Rattle.verilog_text.specs.Statements.{Opens, allows, stage_after, firs
 ghost use Rattle.verilog_text.specs.Reading.{statement_at};
 ghost use Rattle.verilog_syntax.specs.View.{statement};
 ghost use Rattle.verilog_syntax.specs.View as view;
-ghost use Rattle.verilog_syntax.specs.Reads.{lexemes, stage, Gives, is_finished, LacksAt};
+ghost use Rattle.verilog_syntax.specs.Reads.{stage, Gives, is_finished, LacksAt};
 
 use crate::error::{ReadError, SyntaxError};
 use crate::forms::form;
 use crate::stage::Stage;
 use crate::statement::{Form, Statement};
-use rl_text::Lexeme;
+use rl_text::WordsLeft;
 use std::alloc::Global;
 use verilog_text::spelling_laws::reading_is_opening;
 
@@ -62,25 +62,24 @@ impl Stage {
     }
 }
 
-type Found<'t, 'a, E> = Result<(Statement<'a>, &'t [Lexeme<'a>]), E>;
-
-/// The statement at the front, one that the stage allows, and the words after it.
+/// Takes the statement at the front, one that the stage allows.
 #[tactic(auto, unfolding(verilog_text::specs::Reading::statement_at))]
-fn read<'t, 'a>(alloc: Global, ws: &'t [Lexeme<'a>], current: Stage) -> Found<'t, 'a, ReadError>
-    ensures { Gives (λ x. (statement x.0, lexemes x.1.now)) result (statement_at (stage current) (lexemes ws.now)) }
+fn read<'a>(
+    alloc: Global,
+    words: &mut WordsLeft<'a>,
+    current: Stage,
+) -> Result<Statement<'a>, ReadError>
+    ensures { Gives (λ x. (statement x, words.new)) result (statement_at (stage current) words.old) }
 {
-    match ws {
-        [] => Err(ReadError::Syntax),
-        [w, ..] => {
-            let (next, rest) = form(alloc, ws)?;
+    match words.first() {
+        None => Err(ReadError::Syntax),
+        Some(w) => {
+            let next = form(alloc, words)?;
             if allows(current, &next) {
-                Ok((
-                    Statement {
-                        form: next,
-                        line: w.line,
-                    },
-                    rest,
-                ))
+                Ok(Statement {
+                    form: next,
+                    line: w.line,
+                })
             } else {
                 Err(ReadError::Syntax)
             }
@@ -88,30 +87,31 @@ fn read<'t, 'a>(alloc: Global, ws: &'t [Lexeme<'a>], current: Stage) -> Found<'t
     }
 }
 
-fn first_line(end: u32, ws: &[Lexeme<'_>]) -> u32
-    ensures { result ≡ first_line end (lexemes ws.now) }
+fn first_line(end: u32, words: &WordsLeft<'_>) -> u32
+    ensures { result ≡ first_line end words.now }
 {
-    match ws {
-        [] => end,
-        [w, ..] => w.line,
+    match words.first() {
+        None => end,
+        Some(w) => w.line,
     }
 }
 
-/// The statement that opens the words, one that may come at this stage, and the words after it. `At` holds the line at
-/// which none opens them; `end` is the line of the text's end.
-pub fn next_statement<'t, 'a>(
+/// Takes the statement that opens the words, one that may come at this stage. `At` holds the line at which none opens
+/// them; `end` is the line of the text's end.
+pub fn next_statement<'a>(
     alloc: Global,
-    ws: &'t [Lexeme<'a>],
+    words: &mut WordsLeft<'a>,
     current: Stage,
     end: u32,
-) -> Found<'t, 'a, SyntaxError>
-    ensures opens { IfOk result (λ x. Opens (stage current) (lexemes ws.now) (statement x.0) (lexemes x.1.now)) }
-    ensures lacks { IfErr result (LacksAt (stage current) (lexemes ws.now) end) }
+) -> Result<Statement<'a>, SyntaxError>
+    ensures opens { IfOk result (λ x. Opens (stage current) words.old (statement x) words.new) }
+    ensures lacks { IfErr result (LacksAt (stage current) words.old end) }
 {
     reading_is_opening();
-    match read(alloc, ws, current) {
+    let line = first_line(end, words);
+    match read(alloc, words, current) {
         Ok(found) => Ok(found),
-        Err(ReadError::Syntax) => Err(SyntaxError::At(first_line(end, ws))),
+        Err(ReadError::Syntax) => Err(SyntaxError::At(line)),
         Err(ReadError::NoMemory) => Err(SyntaxError::NoMemory),
     }
 }

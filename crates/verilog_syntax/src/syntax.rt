@@ -1,48 +1,47 @@
 //! Expressions at the front of words: `~` binds before `&` and `&` before `|`.
 ghost use Rattle.std.specs.Prelude.{◌≡◌};
 ghost use Rattle.verilog_text.specs.Reading.{bit_at, named, constant, product, sum, negation, group, operation, unary, expression_at};
-ghost use Rattle.verilog_syntax.specs.Reads.{lexemes, Gives};
+ghost use Rattle.verilog_syntax.specs.Reads.{Gives};
 ghost use Rattle.verilog_syntax.specs.View.{expression};
 ghost use Rattle.rl_text.specs.declared.token.Kind.TheVariants.{Symbol};
 
 use crate::error::ReadError;
-use crate::words::{after_sign, behind_sign, number};
+use crate::words::{number, pass_sign, starts, take_sign};
 use crate::written::Written;
-use rl_text::{Kind, Lexeme};
+use rl_text::{Kind, WordsLeft};
 use std::alloc::Global;
-
-type Found<'t, 'a> = Result<(Written<'a>, &'t [Lexeme<'a>]), ReadError>;
 
 /// `[k]` after a name.
 #[tactic(auto, unfolding(verilog_text::specs::Reading::bit_at))]
-fn bit<'t, 'a>(text: &'a [u8], ws: &'t [Lexeme<'a>]) -> Found<'t, 'a>
-    ensures { Gives (λ x. (expression x.0, lexemes x.1.now)) result (bit_at text.now (lexemes ws.now)) }
+fn bit<'a>(text: &'a [u8], words: &mut WordsLeft<'a>) -> Result<Written<'a>, ReadError>
+    ensures { Gives (λ x. (expression x, words.new)) result (bit_at text.now words.old) }
 {
-    let rest = after_sign(ws, b"[")?;
-    let (place, rest) = number(rest)?;
-    let rest = after_sign(rest, b"]")?;
-    Ok((Written::Bit(text, place), rest))
+    pass_sign(words, b"[")?;
+    let place = number(words)?;
+    pass_sign(words, b"]")?;
+    Ok(Written::Bit(text, place))
 }
 
 /// What a name begins.
-#[tactic(auto, unfolding(verilog_text::specs::Reading::named, verilog_text::specs::Reading::after))]
-fn named<'t, 'a>(text: &'a [u8], ws: &'t [Lexeme<'a>]) -> Found<'t, 'a>
-    ensures { Gives (λ x. (expression x.0, lexemes x.1.now)) result (named text.now (lexemes ws.now)) }
+#[tactic(auto, unfolding(verilog_text::specs::Reading::named))]
+fn named<'a>(text: &'a [u8], words: &mut WordsLeft<'a>) -> Result<Written<'a>, ReadError>
+    ensures { Gives (λ x. (expression x, words.new)) result (named text.now words.old) }
 {
-    match behind_sign(ws, b"[") {
-        Some(_) => bit(text, ws),
-        None => Ok((Written::Name(text), ws)),
+    if starts(words, b"[") {
+        bit(text, words)
+    } else {
+        Ok(Written::Name(text))
     }
 }
 
 #[tactic(auto, unfolding(verilog_text::specs::Reading::constant))]
-fn constant<'t, 'a>(text: &[u8], ws: &'t [Lexeme<'a>]) -> Found<'t, 'a>
-    ensures { Gives (λ x. (expression x.0, lexemes x.1.now)) result (constant text.now (lexemes ws.now)) }
+fn constant<'a>(text: &[u8], words: &mut WordsLeft<'a>) -> Result<Written<'a>, ReadError>
+    ensures { Gives (λ x. (expression x, words.new)) result (constant text.now words.old) }
 {
     if text == b"1'b0".as_slice() {
-        Ok((Written::Low, ws))
+        Ok(Written::Low)
     } else if text == b"1'b1".as_slice() {
-        Ok((Written::High, ws))
+        Ok(Written::High)
     } else {
         Err(ReadError::Syntax)
     }
@@ -51,16 +50,16 @@ fn constant<'t, 'a>(text: &[u8], ws: &'t [Lexeme<'a>]) -> Found<'t, 'a>
 /// What `&` joins, with at most `depth` nested `~` and `(`.
 #[cycle(expr)]
 #[tactic(auto, unfolding(verilog_text::specs::Reading::unary))]
-fn unary<'t, 'a>(alloc: Global, ws: &'t [Lexeme<'a>], depth: u32) -> Found<'t, 'a>
-    ensures { Gives (λ x. (expression x.0, lexemes x.1.now)) result (unary depth (lexemes ws.now)) }
+fn unary<'a>(alloc: Global, words: &mut WordsLeft<'a>, depth: u32) -> Result<Written<'a>, ReadError>
+    ensures { Gives (λ x. (expression x, words.new)) result (unary depth words.old) }
 {
-    match ws {
-        [] => Err(ReadError::Syntax),
-        [w, rest @ ..] => match w.kind {
-            Kind::Name => named(w.bytes, rest),
-            Kind::Bits => constant(w.bytes, rest),
+    match words.next() {
+        None => Err(ReadError::Syntax),
+        Some(w) => match w.kind {
+            Kind::Name => named(w.bytes, words),
+            Kind::Bits => constant(w.bytes, words),
             _ if depth == 0 => Err(ReadError::Syntax),
-            Kind::Symbol => operation(alloc, w.bytes, rest, depth - 1),
+            Kind::Symbol => operation(alloc, w.bytes, words, depth - 1),
             _ => Err(ReadError::Syntax),
         },
     }
@@ -69,14 +68,19 @@ fn unary<'t, 'a>(alloc: Global, ws: &'t [Lexeme<'a>], depth: u32) -> Found<'t, '
 /// What a sign begins.
 #[cycle(expr)]
 #[tactic(auto, unfolding(verilog_text::specs::Reading::negation))]
-fn operation<'t, 'a>(alloc: Global, text: &[u8], ws: &'t [Lexeme<'a>], depth: u32) -> Found<'t, 'a>
-    ensures { Gives (λ x. (expression x.0, lexemes x.1.now)) result (operation Symbol text.now (unary depth) (lexemes ws.now)) }
+fn operation<'a>(
+    alloc: Global,
+    sign: &[u8],
+    words: &mut WordsLeft<'a>,
+    depth: u32,
+) -> Result<Written<'a>, ReadError>
+    ensures { Gives (λ x. (expression x, words.new)) result (operation Symbol sign.now (unary depth) words.old) }
 {
-    if text == b"~".as_slice() {
-        let (a, rest) = unary(alloc, ws, depth)?;
-        Ok((Written::Not(Box::new(alloc, a)?), rest))
-    } else if text == b"(".as_slice() {
-        group(alloc, ws, depth)
+    if sign == b"~".as_slice() {
+        let a = unary(alloc, words, depth)?;
+        Ok(Written::Not(Box::new(alloc, a)?))
+    } else if sign == b"(".as_slice() {
+        group(alloc, words, depth)
     } else {
         Err(ReadError::Syntax)
     }
@@ -85,58 +89,62 @@ fn operation<'t, 'a>(alloc: Global, text: &[u8], ws: &'t [Lexeme<'a>], depth: u3
 /// What an open parenthesis begins.
 #[cycle(expr)]
 #[tactic(auto, unfolding(verilog_text::specs::Reading::group))]
-fn group<'t, 'a>(alloc: Global, ws: &'t [Lexeme<'a>], depth: u32) -> Found<'t, 'a>
-    ensures { Gives (λ x. (expression x.0, lexemes x.1.now)) result (group (unary depth) (lexemes ws.now)) }
+fn group<'a>(alloc: Global, words: &mut WordsLeft<'a>, depth: u32) -> Result<Written<'a>, ReadError>
+    ensures { Gives (λ x. (expression x, words.new)) result (group (unary depth) words.old) }
 {
-    let (a, rest) = sum(alloc, ws, depth)?;
-    let rest = after_sign(rest, b")")?;
-    Ok((Written::Group(Box::new(alloc, a)?), rest))
+    let a = sum(alloc, words, depth)?;
+    pass_sign(words, b")")?;
+    Ok(Written::Group(Box::new(alloc, a)?))
 }
 
 /// At most 64 parts with `&` between them.
 #[cycle(expr)]
-fn product<'t, 'a>(alloc: Global, ws: &'t [Lexeme<'a>], depth: u32) -> Found<'t, 'a>
-    ensures { Gives (λ x. (expression x.0, lexemes x.1.now)) result (product (unary depth) (lexemes ws.now)) }
+fn product<'a>(
+    alloc: Global,
+    words: &mut WordsLeft<'a>,
+    depth: u32,
+) -> Result<Written<'a>, ReadError>
+    ensures { Gives (λ x. (expression x, words.new)) result (product (unary depth) words.old) }
 {
-    let (mut all, mut rest) = unary(alloc, ws, depth)?;
+    let mut all = unary(alloc, words, depth)?;
     for _ in 0..63u32 {
-        let Some(behind) = behind_sign(rest, b"&") else {
-            return Ok((all, rest));
-        };
-        let (part, after) = unary(alloc, behind, depth)?;
+        if !take_sign(words, b"&") {
+            return Ok(all);
+        }
+        let part = unary(alloc, words, depth)?;
         all = Written::And(Box::new(alloc, all)?, Box::new(alloc, part)?);
-        rest = after;
     }
-    match behind_sign(rest, b"&") {
-        Some(_) => Err(ReadError::Syntax),
-        None => Ok((all, rest)),
+    if starts(words, b"&") {
+        Err(ReadError::Syntax)
+    } else {
+        Ok(all)
     }
 }
 
 /// At most 64 products with `|` between them.
 #[cycle(expr)]
-fn sum<'t, 'a>(alloc: Global, ws: &'t [Lexeme<'a>], depth: u32) -> Found<'t, 'a>
-    ensures { Gives (λ x. (expression x.0, lexemes x.1.now)) result (sum (unary depth) (lexemes ws.now)) }
+fn sum<'a>(alloc: Global, words: &mut WordsLeft<'a>, depth: u32) -> Result<Written<'a>, ReadError>
+    ensures { Gives (λ x. (expression x, words.new)) result (sum (unary depth) words.old) }
 {
-    let (mut all, mut rest) = product(alloc, ws, depth)?;
+    let mut all = product(alloc, words, depth)?;
     for _ in 0..63u32 {
-        let Some(behind) = behind_sign(rest, b"|") else {
-            return Ok((all, rest));
-        };
-        let (part, after) = product(alloc, behind, depth)?;
+        if !take_sign(words, b"|") {
+            return Ok(all);
+        }
+        let part = product(alloc, words, depth)?;
         all = Written::Or(Box::new(alloc, all)?, Box::new(alloc, part)?);
-        rest = after;
     }
-    match behind_sign(rest, b"|") {
-        Some(_) => Err(ReadError::Syntax),
-        None => Ok((all, rest)),
+    if starts(words, b"|") {
+        Err(ReadError::Syntax)
+    } else {
+        Ok(all)
     }
 }
 
 /// An expression, of at most 64 nested `~` and `(`.
 #[tactic(auto, unfolding(verilog_text::specs::Reading::expression_at))]
-pub fn expression<'t, 'a>(alloc: Global, ws: &'t [Lexeme<'a>]) -> Found<'t, 'a>
-    ensures { Gives (λ x. (expression x.0, lexemes x.1.now)) result (expression_at (lexemes ws.now)) }
+pub fn expression<'a>(alloc: Global, words: &mut WordsLeft<'a>) -> Result<Written<'a>, ReadError>
+    ensures { Gives (λ x. (expression x, words.new)) result (expression_at words.old) }
 {
-    sum(alloc, ws, 64)
+    sum(alloc, words, 64)
 }

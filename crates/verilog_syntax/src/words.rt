@@ -1,108 +1,88 @@
 //! One word at the front of others.
-ghost use Rattle.std.specs.Prelude.{◌≡◌, None, Some, MatchOption};
+ghost use Rattle.std.specs.Prelude.{◌≡◌, true, false, None, Some};
 ghost use Rattle.verilog_text.specs.Grammar.{is_plain};
-ghost use Rattle.verilog_text.specs.Reading.{is_name, is_number, is_bits, is_symbol, after, after_sign, after_name, name_at, bytes_at, number_at};
-ghost use Rattle.verilog_syntax.specs.Reads.{lexemes, Gives};
+ghost use Rattle.verilog_text.specs.Reading.{is_name, is_number, is_bits, is_symbol, begins, after, after_sign, after_name, name_at, bytes_at, number_at};
+ghost use Rattle.verilog_syntax.specs.Reads.{Gives};
 
 use crate::error::ReadError;
-use rl_text::{Kind, Lexeme};
+use rl_text::{Kind, WordsLeft};
 
-/// The words after this sign, if it is at the front.
-#[tactic(auto, unfolding(verilog_text::specs::Reading::after, verilog_text::specs::Reading::begins))]
-pub fn behind_sign<'t, 'a>(ws: &'t [Lexeme<'a>], text: &[u8]) -> Option<&'t [Lexeme<'a>]>
-    ensures { MatchOption result (after is_symbol text.now (lexemes ws.now) ≡ None) (λ r. after is_symbol text.now (lexemes ws.now) ≡ Some (lexemes r.now)) }
+/// Whether this sign is at the front.
+#[tactic(auto, unfolding(verilog_text::specs::Reading::begins))]
+pub fn starts(words: &WordsLeft<'_>, sign: &[u8]) -> bool
+    ensures { result ≡ begins is_symbol sign.now words.now }
 {
-    match ws {
-        [] => None,
-        [w, rest @ ..] => {
-            if matches!(w.kind, Kind::Symbol) && w.bytes == text {
-                Some(rest)
-            } else {
-                None
-            }
-        }
+    match words.first() {
+        None => false,
+        Some(w) => matches!(w.kind, Kind::Symbol) && w.bytes == sign,
     }
 }
 
-/// The words after this sign, if it is at the front; else `Syntax`.
+/// Takes this sign, if it is at the front.
 #[tactic(auto, unfolding(verilog_text::specs::Reading::after, verilog_text::specs::Reading::begins))]
-pub fn after_sign<'t, 'a>(ws: &'t [Lexeme<'a>], text: &[u8]) -> Result<&'t [Lexeme<'a>], ReadError>
-    ensures { Gives (λ x. lexemes x.now) result (after_sign text.now (lexemes ws.now)) }
+pub fn take_sign(words: &mut WordsLeft<'_>, sign: &[u8]) -> bool
+    ensures taken { result ≡ true → after is_symbol sign.now words.old ≡ Some words.new }
+    ensures kept { result ≡ false → (after is_symbol sign.now words.old ≡ None) × (words.new ≡ words.old) }
 {
-    match behind_sign(ws, text) {
-        Some(rest) => Ok(rest),
-        None => Err(ReadError::Syntax),
+    let found = starts(words, sign);
+    if found {
+        let _ = words.next();
+    }
+    found
+}
+
+/// Takes this sign; `Syntax` if it is not at the front.
+#[tactic(auto, unfolding(verilog_text::specs::Reading::after, verilog_text::specs::Reading::begins))]
+pub fn pass_sign(words: &mut WordsLeft<'_>, sign: &[u8]) -> Result<(), ReadError>
+    ensures { Gives (λ _. words.new) result (after_sign sign.now words.old) }
+{
+    match words.next() {
+        Some(w) if matches!(w.kind, Kind::Symbol) && w.bytes == sign => Ok(()),
+        _ => Err(ReadError::Syntax),
     }
 }
 
-/// The words after this name, if it is at the front; else `Syntax`.
+/// Takes this name; `Syntax` if it is not at the front.
 #[tactic(auto, unfolding(verilog_text::specs::Reading::after, verilog_text::specs::Reading::begins))]
-pub fn after_name<'t, 'a>(ws: &'t [Lexeme<'a>], text: &[u8]) -> Result<&'t [Lexeme<'a>], ReadError>
-    ensures { Gives (λ x. lexemes x.now) result (after_name text.now (lexemes ws.now)) }
+pub fn pass_name(words: &mut WordsLeft<'_>, text: &[u8]) -> Result<(), ReadError>
+    ensures { Gives (λ _. words.new) result (after_name text.now words.old) }
 {
-    match ws {
-        [] => Err(ReadError::Syntax),
-        [w, rest @ ..] => {
-            if matches!(w.kind, Kind::Name) && w.bytes == text {
-                Ok(rest)
-            } else {
-                Err(ReadError::Syntax)
-            }
-        }
+    match words.next() {
+        Some(w) if matches!(w.kind, Kind::Name) && w.bytes == text => Ok(()),
+        _ => Err(ReadError::Syntax),
     }
 }
 
-/// The words after this number, if it is at the front; else `Syntax`.
+/// Takes this number; `Syntax` if it is not at the front.
 #[tactic(auto, unfolding(verilog_text::specs::Reading::after, verilog_text::specs::Reading::begins))]
-pub fn after_number<'t, 'a>(
-    ws: &'t [Lexeme<'a>],
-    text: &[u8],
-) -> Result<&'t [Lexeme<'a>], ReadError>
-    ensures { Gives (λ x. lexemes x.now) result (after is_number text.now (lexemes ws.now)) }
+pub fn pass_number(words: &mut WordsLeft<'_>, text: &[u8]) -> Result<(), ReadError>
+    ensures { Gives (λ _. words.new) result (after is_number text.now words.old) }
 {
-    match ws {
-        [] => Err(ReadError::Syntax),
-        [w, rest @ ..] => {
-            if matches!(w.kind, Kind::Number) && w.bytes == text {
-                Ok(rest)
-            } else {
-                Err(ReadError::Syntax)
-            }
-        }
+    match words.next() {
+        Some(w) if matches!(w.kind, Kind::Number) && w.bytes == text => Ok(()),
+        _ => Err(ReadError::Syntax),
     }
 }
 
-/// The name at the front, and the words after it; else `Syntax`.
+/// Takes the name at the front; `Syntax` if there is none.
 #[tactic(auto, unfolding(verilog_text::specs::Reading::bytes_at))]
-pub fn name<'t, 'a>(ws: &'t [Lexeme<'a>]) -> Result<(&'a [u8], &'t [Lexeme<'a>]), ReadError>
-    ensures { Gives (λ x. (x.0.now, lexemes x.1.now)) result (name_at (lexemes ws.now)) }
+pub fn name<'a>(words: &mut WordsLeft<'a>) -> Result<&'a [u8], ReadError>
+    ensures { Gives (λ x. (x.now, words.new)) result (name_at words.old) }
 {
-    match ws {
-        [] => Err(ReadError::Syntax),
-        [w, rest @ ..] => {
-            if matches!(w.kind, Kind::Name) {
-                Ok((w.bytes, rest))
-            } else {
-                Err(ReadError::Syntax)
-            }
-        }
+    match words.next() {
+        Some(w) if matches!(w.kind, Kind::Name) => Ok(w.bytes),
+        _ => Err(ReadError::Syntax),
     }
 }
 
-/// The bits at the front, such as `1'b0`, and the words after them; else `Syntax`.
+/// Takes the bits at the front, such as `1'b0`; `Syntax` if there are none.
 #[tactic(auto, unfolding(verilog_text::specs::Reading::bytes_at))]
-pub fn bits<'t, 'a>(ws: &'t [Lexeme<'a>]) -> Result<(&'a [u8], &'t [Lexeme<'a>]), ReadError>
-    ensures { Gives (λ x. (x.0.now, lexemes x.1.now)) result (bytes_at is_bits (lexemes ws.now)) }
+pub fn bits<'a>(words: &mut WordsLeft<'a>) -> Result<&'a [u8], ReadError>
+    ensures { Gives (λ x. (x.now, words.new)) result (bytes_at is_bits words.old) }
 {
-    match ws {
-        [] => Err(ReadError::Syntax),
-        [w, rest @ ..] => {
-            if matches!(w.kind, Kind::Bits) {
-                Ok((w.bytes, rest))
-            } else {
-                Err(ReadError::Syntax)
-            }
-        }
+    match words.next() {
+        Some(w) if matches!(w.kind, Kind::Bits) => Ok(w.bytes),
+        _ => Err(ReadError::Syntax),
     }
 }
 
@@ -117,19 +97,13 @@ fn is_plain(digits: &[u8]) -> bool
     }
 }
 
-/// A number with no leading zero.
+/// Takes the number at the front, one with no leading zero; `Syntax` if there is none.
 #[tactic(auto, unfolding(verilog_text::specs::Reading::number_at))]
-pub fn number<'t, 'a>(ws: &'t [Lexeme<'a>]) -> Result<(&'a [u8], &'t [Lexeme<'a>]), ReadError>
-    ensures { Gives (λ x. (x.0.now, lexemes x.1.now)) result (number_at (lexemes ws.now)) }
+pub fn number<'a>(words: &mut WordsLeft<'a>) -> Result<&'a [u8], ReadError>
+    ensures { Gives (λ x. (x.now, words.new)) result (number_at words.old) }
 {
-    match ws {
-        [] => Err(ReadError::Syntax),
-        [w, rest @ ..] => {
-            if matches!(w.kind, Kind::Number) && is_plain(w.bytes) {
-                Ok((w.bytes, rest))
-            } else {
-                Err(ReadError::Syntax)
-            }
-        }
+    match words.next() {
+        Some(w) if matches!(w.kind, Kind::Number) && is_plain(w.bytes) => Ok(w.bytes),
+        _ => Err(ReadError::Syntax),
     }
 }

@@ -2,7 +2,6 @@ use Rattle.std.proofs.Common.{◌≡◌, ◌+◌, ◌-◌, ◌*◌}
 use Rattle.std.specs.Prelude.{codes}
 use Rattle.verilog_text.specs.Grammar.{And, Or}
 use Rattle.verilog_text.specs.Reading.{chain, product, sum, unary}
-use Rattle.verilog_syntax.specs.Reads.{lexemes}
 use Rattle.verilog_syntax.specs.View.{expression}
 use Rattle.verilog_syntax.proofs.syntax.+expr.Given as goal
 
@@ -24,8 +23,8 @@ decreases-operation l = 5 * l.depth + 4
 -- what is read in all is what the parts so far and the words after them come to
 abbrev pub invariant-product-loop : goal.invariant-product-loop
 invariant-product-loop l =
-    chain (codes "&") And (unary l.depth) (63 - l.counter) (expression l.all) (lexemes l.rest) ≡ product (unary l.depth) (lexemes l.ws)
+    chain (codes "&") And (unary l.depth) (63 - l.counter) (expression l.all) l.words ≡ product (unary l.depth) l.fn.words
 
 abbrev pub invariant-sum-loop : goal.invariant-sum-loop
 invariant-sum-loop l =
-    chain (codes "|") Or (product (unary l.depth)) (63 - l.counter) (expression l.all) (lexemes l.rest) ≡ sum (unary l.depth) (lexemes l.ws)
+    chain (codes "|") Or (product (unary l.depth)) (63 - l.counter) (expression l.all) l.words ≡ sum (unary l.depth) l.fn.words
