@@ -4,6 +4,7 @@ pub mod Following
 pub mod Shifting
 pub mod Faulting
 pub mod Walking
+pub mod Reaching
 pub mod Order
 pub mod Lowering
 pub mod Once

@@ -115,7 +115,7 @@ flat_append : (f : List Time → Time) (w : ℕ) (us vs : List (List Time)) → 
 flat_append f w [] vs = refl
 flat_append f w (u ∷ us) vs = ap (λ l. new_at w u (f u) ++ l) (flat_append f w us vs) ∙ sym (append_assoc (new_at w u (f u)) (new_rows f w us) (new_rows f w vs))
 
--- ---- what stands before a list of the walk
+-- ---- what is before a list of the walk
 
 earlier : (us : List (List Time)) (v : List Time) (vs : List (List Time)) (u : List Time) → InTurn (us ++ v ∷ vs) → Member u us → Before u v
 earlier [] v vs u h m = absurd m
@@ -135,7 +135,7 @@ stands_before us v vs u h m b = go (member_parts u us (v ∷ vs) m)
     go (inr (inr k)) = absurd (not_both u v b (later us v vs u h k))
 
 module _ (f : List Time → Time) (causal : IsCausal f) (w n : ℕ) where
-  -- the row of a list stands already exactly where the list isn't the first that has it
+  -- the row of a list is there already exactly where the list isn't the first that has it
   repeated : (y : ℕ) (us : List (List Time)) (v : List Time) (vs : List (List Time)) → us ++ v ∷ vs ≡ window_lists w n → f v ≡ At y → (b : Bool) → is_first w y v ≡ b → list_any (same_row (row_at y v)) (new_rows f w us) ≡ cond b false true
   repeated y us v vs e value true h = any_none (same_row (row_at y v)) (new_rows f w us) none
     where

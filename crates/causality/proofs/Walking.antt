@@ -116,15 +116,16 @@ front_more xs place a front lt h = take_more_set xs place a lt ∙ ap (λ l. l +
 left_more : (xs : List Time) (place : ℕ) → place < length xs → length xs - place ≡ suc (length xs - (place + 1))
 left_more xs place lt = omega (arith, lt)
 
-pub walk_step : (f : List Time → Time) (w place step : ℕ) (first xs : List Time) (start rows : List Row) (a : Time) → place < length first → step < w + 2 → take place xs ≡ take place first → length xs ≡ length first → a ≡ window_time w step →
+pub walk_step : (f g : List Time → Time) (w place step : ℕ) (first xs : List Time) (start rows : List Row) (a : Time) → place < length first → step < w + 2 → take place xs ≡ take place first → length xs ≡ length first → a ≡ window_time w step → g ≡ f →
     walked f w start (begun w (length first - (place + 1)) (take place first) step) ≡ Ok rows →
-    walked f w start (begun w (length first - (place + 1)) (take place first) (step + 1)) ≡ walked f w rows (behind (take (place + 1) (set xs place a)) (time_lists w (length (set xs place a) - (place + 1))))
-walk_step f w place step first xs start rows a lt small front many is h =
+    walked f w start (begun w (length first - (place + 1)) (take place first) (step + 1)) ≡ walked g w rows (behind (take (place + 1) (set xs place a)) (time_lists w (length (set xs place a) - (place + 1))))
+walk_step f g w place step first xs start rows a lt small front many is same_function h =
     let left = length first - (place + 1) in
     let same : length first - (place + 1) ≡ length (set xs place a) - (place + 1) = ap (λ k. k - (place + 1)) (sym (length-set xs place a ∙ many)) in
     let fronts : take place first ++ window_time w step ∷ [] ≡ take (place + 1) (set xs place a) = ap (λ t. take place first ++ t ∷ []) (sym is) ∙ sym (front_more xs place a (take place first) (omega (arith, lt, many)) front) in
     walked_more f w left step (take place first) start rows small h
-    ∙ (ap (λ l. walked f w rows (behind l (time_lists w left))) fronts ∙ ap (λ k. walked f w rows (behind (take (place + 1) (set xs place a)) (time_lists w k))) same)
+    ∙ (ap (λ l. walked f w rows (behind l (time_lists w left))) fronts ∙ ap (λ k. walked f w rows (behind (take (place + 1) (set xs place a)) (time_lists w k))) same
+    ∙ ap (λ (h : List Time → Time). walked h w rows (behind (take (place + 1) (set xs place a)) (time_lists w (length (set xs place a) - (place + 1))))) (sym same_function))
 
 pub walk_end : (f : List Time → Time) (w place step : ℕ) (first : List Time) (start rows : List Row) → place < length first → step ≡ w + 2 → walked f w start (begun w (length first - (place + 1)) (take place first) step) ≡ Ok rows →
     walked f w start (behind (take place first) (time_lists w (length first - place))) ≡ Ok rows
@@ -146,6 +147,21 @@ walk_refused f w place step first start new told error.NoMemory lt h g = tt
 pub front_stays : (place : ℕ) (first xs new : List Time) (a : Time) → take place xs ≡ take place first → take (place + 1) new ≡ take (place + 1) (set xs place a) → take place new ≡ take place first
 front_stays place first xs new a front h =
     sym (take-take place (place + 1) new (omega arith)) ∙ (ap (take place) h ∙ (take-take place (place + 1) (set xs place a) (omega arith) ∙ (take-set xs place a ∙ front)))
+
+and_then_ok : (r : Result (List Row) ℕ) → and_then r (λ more. Ok more) ≡ r
+and_then_ok (Ok rows) = refl
+and_then_ok (Err y) = refl
+
+-- past the last place there is one list
+pub walk_last : (f : List Time → Time) (w place : ℕ) (xs : List Time) (rows new : List Row) (r : Result (Unit {0}) TabError) → place ≡ length xs → Gives (visited f w rows xs) new r →
+    Gives (walked f w rows (behind (take place xs) (time_lists w (length xs - place)))) new r
+walk_last f w place xs rows new r e g =
+    let none : length xs - place ≡ 0 = omega (arith, e) in
+    let whole : take place xs ++ [] ≡ xs = append-nil (take place xs) ∙ take_all place xs (omega (arith, e)) in
+    let same : walked f w rows (behind (take place xs) (time_lists w (length xs - place))) ≡ visited f w rows xs =
+    ap (λ k. walked f w rows (behind (take place xs) (time_lists w k))) none ∙ (and_then_ok (visited f w rows (take place xs ++ [])) ∙ ap (visited f w rows) whole)
+    in
+    subst (λ told. Gives told new r) (sym same) g
 
 -- ---- from the first place on
 

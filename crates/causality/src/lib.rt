@@ -8,6 +8,7 @@
 mod checking;
 mod fault;
 mod laws;
+mod output;
 mod tabulation;
 
 pub use checking::check_rows;

@@ -7,22 +7,17 @@ ghost use Rattle.func_table.specs.Function.{table_function};
 ghost use Rattle.func_table.specs.Sound.{AreSound};
 ghost use Rattle.spike_eval.specs.Outputs.{output_function};
 ghost use Rattle.causality.specs.Window.{time_lists, is_start, window_lists, entry_at, row_at, window_rows, IsInReach, IsCause};
+ghost use Rattle.causality.specs.Reached.{time_of};
 ghost use Rattle.causality.specs.Walk.{IsWithin, window_time, is_earliest, is_first, valued, visited, walked, behind, Gives};
 
 use crate::fault::TabError;
+use crate::output::Output;
 use func_table::{Row, Table, the_matching_row_decides};
 use net_model::Network;
 use rl_text::copy_names;
 use rl_time::{NoMemory, Time};
-use spike_eval::{eval, outputs_are_causal};
+use spike_eval::outputs_are_causal;
 use std::alloc::Global;
-
-/// What is tabulated of a network: the output at a place, from 0, at the times from 0 to the last.
-#[derive(Clone, Copy)]
-struct Window {
-    out: u32,
-    last: u32,
-}
 
 /// The table of a network's output at a place, from 0, within a window of cycles: at the lists of times from 0 to
 /// `window`, or never, of which the least is 0. They are walked with the first input slowest, and never last. A list at
@@ -47,7 +42,7 @@ pub fn tabulate(alloc: Global, n: &Network, out: u32, window: u32) -> Result<Tab
     if is_too_wide(window, inputs) {
         return Err(TabError::TooWide);
     }
-    let rows = window_rows(alloc, n, Window { out, last: window })?;
+    let rows = window_rows(alloc, n, out, window)?;
     if rows.len() > 256 {
         return Err(TabError::TooManyRows);
     }
@@ -76,17 +71,18 @@ fn named(alloc: Global, n: &Network, out: u32, rows: Vec<Row>) -> Result<Table, 
 }
 
 /// The rows of a window.
-fn window_rows(alloc: Global, n: &Network, window: Window) -> Result<Vec<Row>, TabError>
-    requires output { window.out < length n.now.outputs }
-    requires small { window.last ≤ 1000000 }
+fn window_rows(alloc: Global, n: &Network, out: u32, last: u32) -> Result<Vec<Row>, TabError>
+    requires output { out < length n.now.outputs }
+    requires small { last ≤ 1000000 }
     ensures rows { IfOk result (λ rows.
-        walked (output_function n.now window.out) window.last [] (time_lists window.last (length n.now.inputs)) ≡ Ok rows.items) }
-    ensures late { IfErr result (λ e. Gives (walked (output_function n.now window.out) window.last [] (time_lists window.last (length n.now.inputs))) [] (Err e)) }
+        walked (output_function n.now out) last [] (time_lists last (length n.now.inputs)) ≡ Ok rows.items) }
+    ensures late { IfErr result (λ e. Gives (walked (output_function n.now out) last [] (time_lists last (length n.now.inputs))) [] (Err e)) }
 {
     n.rules();
+    let mut output = Output::new(alloc, n, out)?;
     let mut list = nevers(alloc, n.inputs().len())?;
     let mut rows = Vec::new(alloc);
-    walk(alloc, n, window, 0, &mut list, &mut rows)?;
+    walk(alloc, &mut output, last, 0, &mut list, &mut rows)?;
     Ok(rows)
 }
 
@@ -100,27 +96,26 @@ fn nevers(alloc: Global, count: usize) -> Result<Vec<Time>, NoMemory>
 /// Walks through the lists that begin as this one does up to a place, and puts their new rows last.
 fn walk(
     alloc: Global,
-    n: &Network,
-    window: Window,
+    output: &mut Output,
+    last: u32,
     place: usize,
     list: &mut [Time],
     rows: &mut Vec<Row>,
 ) -> Result<(), TabError>
-    requires output { window.out < length n.now.outputs }
-    requires small { window.last ≤ 1000000 }
+    requires small { last ≤ 1000000 }
     requires place { place ≤ length list.old }
-    requires one_for_each_input { length list.old ≡ length n.now.inputs }
-    requires within { AllByRecursion (IsWithin window.last) (take place list.old) }
-    ensures rows { Gives (walked (output_function n.now window.out) window.last rows.old.items (behind (take place list.old) (time_lists window.last (length list.old - place)))) rows.new.items result }
+    requires within { AllByRecursion (IsWithin last) (take place list.old) }
+    ensures rows { Gives (walked (time_of output.old) last rows.old.items (behind (take place list.old) (time_lists last (length list.old - place)))) rows.new.items result }
     ensures front { take place list.new ≡ take place list.old }
     ensures length { length list.new ≡ length list.old }
+    ensures output { output.new ≡ output.old }
 {
     if place == list.len() {
-        return visit(alloc, n, window, list, rows);
+        return visit(alloc, output, last, list, rows);
     }
-    for step in 0..window.last + 2 {
-        list[place] = window_time(window.last, step);
-        walk(alloc, n, window, place + 1, list, rows)?;
+    for step in 0..last + 2 {
+        list[place] = window_time(last, step);
+        walk(alloc, output, last, place + 1, list, rows)?;
     }
     Ok(())
 }
@@ -138,25 +133,24 @@ fn window_time(last: u32, step: u32) -> Time
 /// Puts the row of one list last, where it is new.
 fn visit(
     alloc: Global,
-    n: &Network,
-    window: Window,
+    output: &mut Output,
+    last: u32,
     list: &[Time],
     rows: &mut Vec<Row>,
 ) -> Result<(), TabError>
-    requires output { window.out < length n.now.outputs }
-    requires small { window.last ≤ 1000000 }
-    requires one_for_each_input { length list.now ≡ length n.now.inputs }
-    requires within { AllByRecursion (IsWithin window.last) list.now }
-    ensures { Gives (visited (output_function n.now window.out) window.last rows.old.items list.now) rows.new.items result }
+    requires small { last ≤ 1000000 }
+    requires within { AllByRecursion (IsWithin last) list.now }
+    ensures rows { Gives (visited (time_of output.old) last rows.old.items list.now) rows.new.items result }
+    ensures output { output.new ≡ output.old }
 {
     if !has_start(list) {
         return Ok(());
     }
-    match output_at(alloc, n, window.out, list)? {
+    match output_time(output, last, list) {
         Time::Never => Ok(()),
         Time::At(y) if y > 255 => Err(TabError::TooLate(y)),
         Time::At(y) => {
-            if is_first(window.last, y as u8, list) {
+            if is_first(last, y as u8, list) {
                 put_row(alloc, y as u8, list, rows)?;
             }
             Ok(())
@@ -164,15 +158,14 @@ fn visit(
     }
 }
 
-/// The time of the output at a place, at times within a window.
-fn output_at(alloc: Global, n: &Network, out: u32, list: &[Time]) -> Result<Time, NoMemory>
-    requires output { out < length n.now.outputs }
-    requires one_for_each_input { length list.now ≡ length n.now.inputs }
-    requires within { AllByRecursion (IsWithin 1000000) list.now }
-    ensures { IfOk result (λ time. time ≡ output_function n.now out list.now) }
+/// The output's time, at times within a window.
+fn output_time(output: &mut Output, last: u32, list: &[Time]) -> Time
+    requires small { last ≤ 1000000 }
+    requires within { AllByRecursion (IsWithin last) list.now }
+    ensures time { result ≡ time_of output.old list.now }
+    ensures output { output.new ≡ output.old }
 {
-    let times = eval(alloc, n, list)?;
-    Ok(times[out as usize])
+    output.time(list)
 }
 
 fn is_start(time: Time) -> bool

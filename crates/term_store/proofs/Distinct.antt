@@ -73,7 +73,7 @@ distinct_below ns s (suc k) i j b hi hj e =
 pub distinct_trees : (ns : List Node) → IsNodes ns → (i j : ℕ) → i < length ns → j < length ns → tree ns i ≡ tree ns j → i ≡ j
 distinct_trees ns s i j hi hj e = distinct_below ns s (suc i) i j (omega arith) hi hj e
 
--- a node's place is where it stands
+-- a node's place is where it is
 pub place_at : (ns : List Node) (n : Node) (i : ℕ) → IsNodes ns → i < length ns → node_at ns i ≡ n → place_of ns n ≡ i
 place_at ns n i s h e =
     let here : same_node n (node_at ns i) ≡ true = subst (λ m. same_node n m ≡ true) (sym e) (same_refl n) in

@@ -51,7 +51,7 @@ fold_within : (P : Tree → Type 0) (f : Tree → ℕ) (a m : ℕ) (ts : List Tr
 fold_within P f a m [] le h all = le
 fold_within P f a m (t ∷ ts) le h all = fold_within P f (max a (f t)) m ts (max-le le (h t all.0)) h all.1
 
--- ---- a list in which each term stands once
+-- ---- a list in which each term occurs once
 
 wider : (c : Bool) (t : Tree) (xs ys : List Tree) → length xs ≤ length ys → length xs ≤ length (if c then t ∷ ys else ys)
 wider true t xs ys h = omega (arith, h)

@@ -33,7 +33,7 @@ same_laws = record {
   congr = λ s t u e. ap (λ v. same_tree v u) (same_is s t e);
 }
 
--- each tree of `distinct` stands there once
+-- each tree of `distinct` occurs there once
 
 pub among_distinct_from : (s : Tree) (ts : List Tree) → is_among s (distinct ts) ≡ true → is_among s ts ≡ true
 among_distinct_from s [] h = h
@@ -191,7 +191,7 @@ either_more s all xs ys h = elim h [ inl e ↦ inl e | inr e ↦ inr (more_left 
 either_later : (s : Tree) (all xs ys : List Tree) → (is_among s all ≡ true) ⊎ (is_among s ys ≡ true) → (is_among s all ≡ true) ⊎ (is_among s (xs ++ ys) ≡ true)
 either_later s all xs ys h = elim h [ inl e ↦ inl e | inr e ↦ inr (more_right s xs ys e) ]
 
--- an operator in a pair is the pair's own, or stands in an operand
+-- an operator in a pair is the pair's own, or is in an operand
 pair_covered : (s t : Tree) (all xs ys : List Tree) (A B : Type 0) → (s ≡ t) ⊎ (A ⊎ B) → (A → (is_among s all ≡ true) ⊎ (is_among s xs ≡ true)) → (B → (is_among s all ≡ true) ⊎ (is_among s ys ≡ true))
     → (is_among s all ≡ true) ⊎ (is_among s (t ∷ xs ++ ys) ≡ true)
 pair_covered s t all xs ys A B h f g = elim h [
@@ -202,7 +202,7 @@ pair_covered s t all xs ys A B h f g = elim h [
   ]
 ]
 
--- an operator in a delayed tree is the delay, or stands in the tree
+-- an operator in a delayed tree is the delay, or is in the tree
 delay_covered : (s t : Tree) (c : ℕ) (all xs : List Tree) → IsIn s (delayed t c) → (IsIn s t → (is_among s all ≡ true) ⊎ (is_among s xs ≡ true))
     → (is_among s all ≡ true) ⊎ (is_among s (own_delay t c ++ xs) ≡ true)
 delay_covered s t c all xs h f = go (nat_eq c 0) refl

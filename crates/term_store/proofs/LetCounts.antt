@@ -92,7 +92,7 @@ distinct_places ns r s (suc n) le = go (becomes_let ns r n) refl (distinct_place
     go true f rest = subst (IsDistinct same_tree) (sym (trees_yes ns r n f)) (IsDistinct-push same_laws (place_trees ns r n) (tree ns n) rest (new_tree ns r n s (omega arith)))
     go false f rest = subst (IsDistinct same_tree) (sym (trees_no ns r n f)) rest
 
--- what stands in a held tree is held
+-- what is in a held tree is held
 
 pub part_held : (ns : List Node) (t u : Tree) → IsNodes ns → IsHeld ns u → IsIn t u → IsHeld ns t
 part_held ns t Never s h i = subst (IsHeld ns) (sym i) h

@@ -74,7 +74,7 @@ pub names_begin : (k : ℕ) → list_all begins_with_underscore (let_names k) �
 names_begin zero = refl
 names_begin (suc k) = list_all-append begins_with_underscore (let_names k) (let_name k ∷ []) ∙ and_from _ _ (names_begin k) refl
 
--- no name stands twice
+-- no name occurs twice
 
 same_name : (a b : List ℕ) → bytes_eq a b ≡ true → a ≡ b
 same_name a b h = (bytes_eq-Decides a b).0 h

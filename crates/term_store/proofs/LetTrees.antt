@@ -23,7 +23,7 @@ use Rattle.term_store.proofs.Lets.{places_yes, places_no, lets_yes, lets_no}
 abbrev pub KeepsOperands : List Node → (ℕ → Bool) → Type 0
 KeepsOperands ns r = (place operand : ℕ) → place < length ns → r place ≡ true → IsOperand operand (node_at ns place) → r operand ≡ true
 
--- where a let's place stands among the places of the lets
+-- where a let's place is among the places of the lets
 pub let_stands : (ns : List Node) (r : ℕ → Bool) (n a : ℕ) → a < n → becomes_let ns r a ≡ true → (let_number ns r a < let_number ns r n) × (slice_index_or (let_places ns r n) (let_number ns r a) 0 ≡ a)
 let_stands ns r zero a h e = absurd (omega arith)
 let_stands ns r (suc n) a h e = go (becomes_let ns r n) refl (λ b. let_stands ns r n a b e)

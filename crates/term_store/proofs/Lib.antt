@@ -12,6 +12,7 @@ pub mod Fits
 pub mod Parts
 pub mod Marks
 pub mod TermValues
+pub mod Numbers
 pub mod FewTerms
 pub mod FewBits
 pub mod Lets

@@ -33,7 +33,7 @@ get_last : {A : Type 0} (xs : List A) (y : A) (d : A) → get_or (xs ++ y ∷ []
 get_last [] y d = refl
 get_last (x ∷ xs) y d = get_last xs y d
 
--- what stands at a place of a list over the first places
+-- what is at a place of a list over the first places
 pub at_listed : {A : Type 0} (f : ℕ → A) (n k : ℕ) (d : A) → k < n → get_or (map f (places n)) k d ≡ f k
 at_listed f zero k d lt = absurd (omega (arith, lt))
 at_listed f (suc n) k d lt = ap (λ xs. get_or xs k d) (map_next f n) ∙ elim (cases_lt k n) [

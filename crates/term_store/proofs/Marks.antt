@@ -46,12 +46,12 @@ root_tree ns roots k r d h = grind (arith, common_steps)
 pub count_trees : (ns : List Node) (roots : List Term) → length (trees_at ns roots) ≡ length roots
 count_trees ns roots = grind (arith, common_steps)
 
--- what stands in a root's tree is reached
+-- what is in a root's tree is reached
 pub reached_from : (ns : List Node) (roots : List Term) (place k : ℕ) (r : Term) → k < length roots → IsIn (tree ns place) (tree ns (slice_index_or roots k r).0) → IsReached ns roots place
 reached_from ns roots place k r h i =
     among_all (tree ns place) (trees_at ns roots) k Never (omega (arith, h, count_trees ns roots)) (subst (IsIn (tree ns place)) (sym (root_tree ns roots k r Never h)) i)
 
--- and what is reached stands in one
+-- and what is reached is in one
 pub reached_in : (ns : List Node) (roots : List Term) (place : ℕ) (r : Term) → IsReached ns roots place → (k : ℕ) × (k < length roots) × IsIn (tree ns place) (tree ns (slice_index_or roots k r).0)
 reached_in ns roots place r h =
     let f = all_among (tree ns place) (trees_at ns roots) Never h in
@@ -195,7 +195,7 @@ is_root_at [] i d h = absurd (omega (arith, h))
 is_root_at (r ∷ roots) zero d h = or_left (eqb r.0 r.0) (is_root roots r.0) (eq-eqb r.0 r.0 refl)
 is_root_at (r ∷ roots) (suc i) d h = or_right (eqb r.0 (slice_index_or roots i d).0) (is_root roots (slice_index_or roots i d).0) (is_root_at roots i d (omega (arith, h)))
 
--- the roots alone are marked, and no place has marked its operands
+-- only the roots are marked, and no place has marked its operands
 pub marks_begin : (ns : List Node) (roots : List Term) (len : ℕ) (ms : List Bool) → len ≡ length ns → All (λ t. t.0 < length ns) roots → length ms ≡ len → ((k : ℕ) → k < len → slice_index_or ms k false ≡ is_root roots k)
     → AreMarks ns roots len ms
 marks_begin ns roots len ms e w l is = record {

@@ -34,7 +34,7 @@ same_is (Lt a b) (Lt c d) e = let h = both_are (same_tree a c) (same_tree b d) e
 same_is (Inc a m) (Inc b n) e = let h = both_are (same_tree a b) (nat_eq m n) e in let p = same_is a b h.0 in let q = nat_same m n h.1 in cc
 same_is s t e = absurd (true≢false (sym e))
 
--- s stands in t
+-- s is in t
 abbrev pub IsIn : Tree → Tree → Type 0
 IsIn s Never = s ≡ Never
 IsIn s (Input i) = s ≡ Input i
@@ -109,13 +109,13 @@ all_subterms_cons t ts = flat_map-cons subterms t ts
 pub among_cons : (s t : Tree) (ts : List Tree) → is_among s (all_subterms (t ∷ ts)) ≡ (is_among s (subterms t) || is_among s (all_subterms ts))
 among_cons s t ts = ap (is_among s) (all_subterms_cons t ts) ∙ among_append s (subterms t) (all_subterms ts)
 
--- what stands in a tree of the list is among the subterms
+-- what is in a tree of the list is among the subterms
 pub among_all : (s : Tree) (ts : List Tree) (k : ℕ) (d : Tree) → k < length ts → IsIn s (slice_index_or ts k d) → is_among s (all_subterms ts) ≡ true
 among_all s [] k d h i = absurd (omega arith)
 among_all s (t ∷ ts) zero d h i = among_cons s t ts ∙ or_left _ _ (among_from_in s t i)
 among_all s (t ∷ ts) (suc k) d h i = among_cons s t ts ∙ or_right (is_among s (subterms t)) _ (among_all s ts k d (omega arith) i)
 
--- and what is among them stands in one of these
+-- and what is among them is in one of these
 pub all_among : (s : Tree) (ts : List Tree) (d : Tree) → is_among s (all_subterms ts) ≡ true → (k : ℕ) × (k < length ts) × IsIn s (slice_index_or ts k d)
 all_among s [] d h = absurd (true≢false (sym h))
 all_among s (t ∷ ts) d h = elim (or_either (is_among s (subterms t)) (is_among s (all_subterms ts)) (sym (among_cons s t ts) ∙ h)) [

@@ -13,7 +13,7 @@ use Rattle.std.proofs.lemmas.Bool.Decides.{nat_tests}
 use Rattle.term_store.specs.contracts.node.NodePartialEq.TheImpl.{eq-value}
 use Rattle.term_store.proofs.Same.{same_refl, same_is, eq_is}
 
--- a node that stands at a place is held
+-- a node that is at a place is held
 pub held_at : (ns : List Node) (n : Node) (i : ℕ) → i < length ns → node_at ns i ≡ n → holds ns n ≡ true
 held_at ns n i h e = list_any_at (same_node n) ns i node.Never h (subst (λ m. same_node n m ≡ true) (sym e) (same_refl n))
 
@@ -93,7 +93,7 @@ place_new ns n e = elim (cases_lt (place_of ns n) (length ns)) [
 pub place_eq : (ns : List Node) (n : Node) → position_or_len (eq-value.it n) ns ≡ place_of ns n
 place_eq ns n = ap (λ p. position_or_len p ns) (eq_at n)
 
--- a node that is held stands at its place
+-- a node that is held is at its place
 pub held_place : (ns : List Node) (n : Node) → holds ns n ≡ true → (place_of ns n < length ns) × (node_at ns (place_of ns n) ≡ n)
 held_place ns n e = elim (cases_lt (place_of ns n) (length ns)) [
   | inl h ↦ (h, sym (same_is _ _ (passes_at_first (same_node n) ns node.Never h)))

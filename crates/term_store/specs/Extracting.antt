@@ -10,7 +10,7 @@ use Rattle.term_store.specs.Extracted.{is_operator, let_number, let_name, let_bo
 abbrev pub marked : List Bool → ℕ → Bool
 marked marks place = slice_index_or marks place false
 
--- the number that stands for the place
+-- the number that means the place
 abbrev pub numbered : List ℕ → ℕ → ℕ
 numbered numbers place = slice_index_or numbers place 0
 

@@ -12,3 +12,4 @@ pub mod Ports
 pub mod Places
 pub mod Room
 pub mod Compacted
+pub mod Steps

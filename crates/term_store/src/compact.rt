@@ -13,7 +13,7 @@ use rl_time::NoMemory;
 use std::alloc::Global;
 
 impl Store {
-    /// A store of what the roots reach alone, in the order that it has here, and the place of each
+    /// A store of what the roots reach and nothing else, in the order that it has here, and the place of each
     /// root there. The roots are places of this store.
     pub fn part(&self, alloc: Global, roots: &[Term]) -> Result<(Store, Vec<Term>), NoMemory>
         requires roots { All (λ t. t.0 < length self.now.nodes) roots.now }

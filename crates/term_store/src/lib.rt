@@ -12,7 +12,9 @@ mod place_laws;
 mod putting;
 mod reach;
 mod region;
+mod step;
 mod store;
+mod times;
 
 pub use laws::{
     network_names_are_ports, network_terms_are_few, no_two_places_alike, reached_places,
@@ -25,3 +27,4 @@ pub use place_laws::{
 };
 pub use reach::reached;
 pub use store::Store;
+pub use times::Evaluator;

@@ -1,5 +1,5 @@
 use Rattle.std.proofs.Common.{◌≡◌, ◌+◌, ◌-◌, length, take, Ok}
-use Rattle.spike_eval.specs.Outputs.{output_function}
+use Rattle.causality.specs.Reached.{time_of}
 use Rattle.causality.specs.Walk.{walked}
 use Rattle.causality.proofs.Walking.{begun}
 use Rattle.causality.proofs.tabulation.+walk.Given as goal
@@ -11,5 +11,6 @@ abbrev pub invariant-loop-step : goal.invariant-loop-step
 invariant-loop-step l = record {
   front : take l.place l.list ≡ take l.place l.fn.list;
   many : length l.list ≡ length l.fn.list;
-  rows : walked (output_function l.n l.window.out) l.window.last l.fn.rows.items (begun l.window.last (length l.fn.list - (l.place + 1)) (take l.place l.fn.list) l.step) ≡ Ok l.rows.items;
+  output : l.output ≡ l.fn.output;
+  rows : walked (time_of l.fn.output) l.last l.fn.rows.items (begun l.last (length l.fn.list - (l.place + 1)) (take l.place l.fn.list) l.step) ≡ Ok l.rows.items;
 }
