@@ -49,6 +49,52 @@ output z = b
     Ok(())
 }
 
+// Chains of max and of min with one operand throughout, on either side; with another operand between; whose end
+// another law takes; and of which either operand is tried. Each body, and its simplified lines.
+const CHAINS: &[(&str, &str)] = &[
+    (
+        "lt(a, max(a, max(max(max(b, a), a), a)))",
+        "let _0 = lt(a, b)\noutput y = _0\n",
+    ),
+    (
+        "lt(min(a, min(min(min(b, a), a), a)), a)",
+        "let _0 = lt(b, a)\noutput y = _0\n",
+    ),
+    (
+        "lt(a, max(a, max(max(c, max(a, b)), a)))",
+        "let _0 = max(a, b)\nlet _1 = max(c, _0)\nlet _2 = lt(a, _1)\noutput y = _2\n",
+    ),
+    (
+        "lt(min(a, min(min(c, min(a, b)), a)), a)",
+        "let _0 = min(a, b)\nlet _1 = min(c, _0)\nlet _2 = lt(_1, a)\noutput y = _2\n",
+    ),
+    ("lt(a, max(a, max(a, inc(a, 1))))", "output y = a\n"),
+    (
+        "lt(min(b, min(lt(c, b), b)), b)",
+        "let _0 = lt(c, b)\noutput y = _0\n",
+    ),
+    (
+        "lt(max(b, a), max(c, max(max(b, a), c)))",
+        "let _0 = max(b, a)\nlet _1 = max(_0, c)\nlet _2 = max(c, _1)\nlet _3 = lt(_0, _2)\noutput y = _3\n",
+    ),
+    (
+        "lt(c, max(c, max(max(b, a), c)))",
+        "let _0 = max(b, a)\nlet _1 = lt(c, _0)\noutput y = _1\n",
+    ),
+];
+
+#[test]
+fn chains_are_simplified_once(rt: HostRuntime) -> Result<(), Fail> {
+    let alloc = rt.alloc();
+    for (body, simple) in CHAINS {
+        let network = format!(in alloc; "racenet 1\ninput a b c\noutput y = {body}\n")?;
+        let simple = format!(in alloc; "racenet 1\ninput a b c\n{simple}")?;
+        expect_values(&rt, alloc, network.as_bytes(), SIMPLIFY, simple.as_bytes())?;
+        expect_values(&rt, alloc, simple.as_bytes(), SIMPLIFY, simple.as_bytes())?;
+    }
+    Ok(())
+}
+
 // Written out, the second has 2^64 - 1 mins.
 #[test]
 fn shared_terms_are_simplified_once(rt: HostRuntime) -> Result<(), Fail> {

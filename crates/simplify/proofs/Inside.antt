@@ -8,7 +8,7 @@ use Rattle.simplify.proofs.Steps.{in_cases}
 use Rattle.simplify.proofs.Matching.{law_step}
 use Rattle.simplify.proofs.Simp.{settle_stays, simp_good, never_none}
 
--- what stands in a reduced tree is reduced
+-- what is in a reduced tree is reduced
 pub reduced_in : (s t : Tree) → FitsNone t → IsIn s t → FitsNone s
 reduced_in s (Input i) r h = subst FitsNone (sym h) r
 reduced_in s Never r h = subst FitsNone (sym h) r

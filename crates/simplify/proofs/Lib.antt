@@ -6,6 +6,8 @@ pub mod Simp
 pub mod Inside
 pub mod At
 pub mod Choice
+pub mod Past
 pub mod Fewer
 pub mod Reduced
 pub mod Passed
+pub mod Noted

@@ -9,7 +9,7 @@ use Rattle.simplify.specs.Simplified.{is_never, is_max_of, is_min_of, is_lt_of, 
 use Rattle.simplify.proofs.Stepping.{IsStep}
 use Rattle.simplify.proofs.Steps.{if_some, if_either, step_of}
 
-never_is : (t : Tree) → is_never t ≡ true → t ≡ Never
+pub never_is : (t : Tree) → is_never t ≡ true → t ≡ Never
 never_is Never e = refl
 never_is t e = absurd (true≢false (sym e))
 

@@ -61,7 +61,7 @@ after_span ns became (node.Inc a c) h = omega (arith, operand_span ns became (no
 
 -- nodes that grow
 
-longer : (old new : List Node) → IsPrefix old new → length old ≤ length new
+pub longer : (old new : List Node) → IsPrefix old new → length old ≤ length new
 longer old new p = omega (arith, ap length p.1, length-append old p.0)
 
 pub prefix_tree : (old new : List Node) (k : ℕ) → IsPrefix old new → k < length old → tree new k ≡ tree old k

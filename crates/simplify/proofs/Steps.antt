@@ -7,7 +7,7 @@ use Rattle.simplify.specs.Simplified.{size}
 use Rattle.simplify.proofs.Stepping.{FitsNone, FitsNoneBelow, IsBelow, IsStep}
 use Rattle.simplify.proofs.Times as on_times
 
--- what an answer tells of its test
+-- what an answer says of its test
 pub if_some : (b : Bool) (x u : Tree) → (if b then Some x else None) ≡ Some u → (b ≡ true) × (x ≡ u)
 if_some true x u e = (refl, cc)
 if_some false x u e = cc

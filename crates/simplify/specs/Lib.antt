@@ -1,4 +1,5 @@
 pub mod Laws
 pub mod Simplified
+pub mod Past
 pub mod Outcomes
 pub mod Passing

@@ -9,7 +9,8 @@ use Rattle.term_store.specs.Trees.{tree}
 use Rattle.term_store.specs.Places.{tree_by_places}
 use Rattle.simplify.specs.declared.outcome.Outcome.{Outcome}
 use Rattle.simplify.specs.declared.outcome.Outcome.TheVariants.{Held, Over}
-use Rattle.simplify.specs.Simplified.{Law, law1, law2, law3, law4, law5, law6, law7, law8, law9, law10, law11, law12, law13, law14, law15, law16, law17, law18, law19, law20}
+use Rattle.simplify.specs.Simplified.{Law, law1, law2, law3, law4, law5, law6, law7, law8, law9, law10, law11, law12, law15, law16, law17, law18, law19, law20, law, first_law}
+use Rattle.simplify.specs.Past.{all_of_law13, all_of_law14}
 
 -- the tree of an outcome
 abbrev pub outcome_tree : List Node → Outcome → Tree
@@ -25,7 +26,7 @@ IsOutcomeOver m (Over n) = IsNodeOver m n
 abbrev pub IsAnswer : List Node → Option Tree → Option Outcome → Type 0
 IsAnswer nodes made answer = MatchOption answer (made ≡ None) (λ x. (made ≡ Some (outcome_tree nodes x)) × IsOutcomeOver (length nodes) x)
 
--- the laws of each operator, in their order
+-- the laws of each operator, in their order; laws 13 and 14 as often as they fit
 abbrev pub min_laws : List Law
 min_laws = law1 ∷ law3 ∷ law10 ∷ law16 ∷ law20 ∷ []
 
@@ -33,10 +34,15 @@ abbrev pub max_laws : List Law
 max_laws = law2 ∷ law4 ∷ law11 ∷ law17 ∷ []
 
 abbrev pub lt_laws : List Law
-lt_laws = law5 ∷ law6 ∷ law7 ∷ law12 ∷ law13 ∷ law14 ∷ law15 ∷ law18 ∷ law19 ∷ []
+lt_laws = law5 ∷ law6 ∷ law7 ∷ law12 ∷ all_of_law13 ∷ all_of_law14 ∷ law15 ∷ law18 ∷ law19 ∷ []
 
 abbrev pub inc_laws : List Law
 inc_laws = law8 ∷ law9 ∷ []
+
+-- what the law with the lowest number that fits makes of the whole tree, laws 13 and 14 as often as they fit
+unfoldable pub stride : Law
+stride (t.Lt a b) = first_law lt_laws (t.Lt a b)
+stride u = law u
 
 -- the node is a max of the place and another
 abbrev pub max_names : ℕ → Node → Bool

@@ -5,9 +5,10 @@ ghost use Rattle.term_store.specs.Nodes.{IsNodes, IsNodeOver};
 ghost use Rattle.term_store.specs.Trees.{tree};
 ghost use Rattle.term_store.specs.Places.{tree_by_places};
 ghost use Rattle.simplify.specs.Simplified.{law8, law9, first_law};
-ghost use Rattle.simplify.specs.Simplified as simplified;
-ghost use Rattle.simplify.specs.Outcomes.{IsAnswer, inc_laws};
+ghost use Rattle.simplify.specs.Outcomes.{IsAnswer, inc_laws, stride};
+ghost use Rattle.simplify.specs.Past.{AreEnds};
 
+use crate::ends::Ends;
 use crate::lt_laws::lt_law;
 use crate::max_laws::max_law;
 use crate::min_laws::min_law;
@@ -52,19 +53,21 @@ fn inc_law(store: &Store, a: Term, cycles: u32) -> Option<Outcome>
     inc_of_never(store, a, cycles)
 }
 
-/// What the law with the lowest number that fits makes of a node. The node's term is at most
-/// 1,000,000 cycles later than an input.
-pub fn law(store: &Store, node: Node) -> Option<Outcome>
+/// What the law with the lowest number that fits makes of a node, as often as it fits if it is a law
+/// that goes along a chain. The node's term is at most 1,000,000 cycles later than an input.
+pub fn law(store: &Store, ends: &[Ends], node: Node) -> Option<Outcome>
     requires nodes { IsNodes store.now.nodes }
+    requires ends { AreEnds store.now.nodes ends.now }
+    requires all { length ends.now ≡ length store.now.nodes }
     requires over { IsNodeOver (length store.now.nodes) node }
     requires short { span (tree_by_places store.now.nodes node) ≤ 1000000 }
-    ensures { IsAnswer store.now.nodes (simplified.law (tree_by_places store.now.nodes node)) result }
+    ensures { IsAnswer store.now.nodes (stride (tree_by_places store.now.nodes node)) result }
 {
     match node {
         Node::Input(_) | Node::Never => None,
         Node::Min(a, b) => min_law(store, a, b),
         Node::Max(a, b) => max_law(store, a, b),
-        Node::Lt(a, b) => lt_law(store, a, b),
+        Node::Lt(a, b) => lt_law(store, ends, a, b),
         Node::Inc(a, cycles) => inc_law(store, a, cycles),
     }
 }

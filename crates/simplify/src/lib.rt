@@ -3,6 +3,8 @@
 //! `NoMemory` is reported where memory ran out.
 #![tactic(auto)]
 
+mod chains;
+mod ends;
 mod law;
 mod laws;
 mod lt_laws;

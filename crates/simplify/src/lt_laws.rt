@@ -3,13 +3,14 @@ ghost use Rattle.std.specs.Prelude.{◌≡◌, ◌<◌, length};
 ghost use Rattle.term_store.specs.Tree.{Lt};
 ghost use Rattle.term_store.specs.Nodes.{IsNodes};
 ghost use Rattle.term_store.specs.Trees.{tree};
-ghost use Rattle.simplify.specs.Simplified.{first_law, law5, law6, law7, law12, law13, law14, law15, law18, law19};
+ghost use Rattle.simplify.specs.Simplified.{first_law, law5, law6, law7, law12, law15, law18, law19};
+ghost use Rattle.simplify.specs.Past.{all_of_law13, all_of_law14, AreEnds};
 ghost use Rattle.simplify.specs.Outcomes.{IsAnswer, lt_laws};
 
+use crate::chains::{past_max, past_min};
+use crate::ends::Ends;
 use crate::outcome::Outcome;
-use crate::places::{
-    is_inc_of, is_lt_before, is_min_of, is_never, is_same, max_operands, min_operands,
-};
+use crate::places::{is_inc_of, is_lt_before, is_min_of, is_never, is_same};
 use term_store::{Node, Store, Term};
 
 /// `lt(a, a)` is never.
@@ -68,37 +69,35 @@ fn lt_before_min(store: &Store, a: Term, b: Term) -> Option<Outcome>
     }
 }
 
-/// `lt(a, max(a, b))` is `lt(a, b)`.
-fn lt_before_max(store: &Store, a: Term, b: Term) -> Option<Outcome>
+/// `lt(a, max(a, b))` is `lt(a, b)`, as often as it fits.
+fn lt_before_max(store: &Store, ends: &[Ends], a: Term, b: Term) -> Option<Outcome>
     requires nodes { IsNodes store.now.nodes }
+    requires ends { AreEnds store.now.nodes ends.now }
     requires a { a.0 < length store.now.nodes }
-    requires b { b.0 < length store.now.nodes }
-    ensures { IsAnswer store.now.nodes (law13 (Lt (tree store.now.nodes a.0) (tree store.now.nodes b.0))) result }
+    requires b { b.0 < length ends.now }
+    ensures { IsAnswer store.now.nodes (all_of_law13 (Lt (tree store.now.nodes a.0) (tree store.now.nodes b.0))) result }
 {
-    let (x, y) = max_operands(store, b)?;
-    if is_same(store, a, x) {
-        Some(Outcome::Over(Node::Lt(a, y)))
-    } else if is_same(store, a, y) {
-        Some(Outcome::Over(Node::Lt(a, x)))
-    } else {
+    let past = past_max(store, ends, a, b);
+    if is_same(store, past, b) {
         None
+    } else {
+        Some(Outcome::Over(Node::Lt(a, past)))
     }
 }
 
-/// `lt(min(a, b), a)` is `lt(b, a)`.
-fn lt_of_min(store: &Store, a: Term, b: Term) -> Option<Outcome>
+/// `lt(min(a, b), a)` is `lt(b, a)`, as often as it fits.
+fn lt_of_min(store: &Store, ends: &[Ends], a: Term, b: Term) -> Option<Outcome>
     requires nodes { IsNodes store.now.nodes }
-    requires a { a.0 < length store.now.nodes }
+    requires ends { AreEnds store.now.nodes ends.now }
+    requires a { a.0 < length ends.now }
     requires b { b.0 < length store.now.nodes }
-    ensures { IsAnswer store.now.nodes (law14 (Lt (tree store.now.nodes a.0) (tree store.now.nodes b.0))) result }
+    ensures { IsAnswer store.now.nodes (all_of_law14 (Lt (tree store.now.nodes a.0) (tree store.now.nodes b.0))) result }
 {
-    let (x, y) = min_operands(store, a)?;
-    if is_same(store, x, b) {
-        Some(Outcome::Over(Node::Lt(y, b)))
-    } else if is_same(store, y, b) {
-        Some(Outcome::Over(Node::Lt(x, b)))
-    } else {
+    let past = past_min(store, ends, b, a);
+    if is_same(store, past, a) {
         None
+    } else {
+        Some(Outcome::Over(Node::Lt(past, b)))
     }
 }
 
@@ -144,9 +143,11 @@ fn lt_of_inc(store: &Store, a: Term, b: Term) -> Option<Outcome>
     }
 }
 
-/// The first of the laws that fits `lt(a, b)`.
-pub fn lt_law(store: &Store, a: Term, b: Term) -> Option<Outcome>
+/// The first of the laws that fits `lt(a, b)`. It goes past a whole chain of max or min at once.
+pub fn lt_law(store: &Store, ends: &[Ends], a: Term, b: Term) -> Option<Outcome>
     requires nodes { IsNodes store.now.nodes }
+    requires ends { AreEnds store.now.nodes ends.now }
+    requires all { length ends.now ≡ length store.now.nodes }
     requires a { a.0 < length store.now.nodes }
     requires b { b.0 < length store.now.nodes }
     ensures { IsAnswer store.now.nodes (first_law lt_laws (Lt (tree store.now.nodes a.0) (tree store.now.nodes b.0))) result }
@@ -163,10 +164,10 @@ pub fn lt_law(store: &Store, a: Term, b: Term) -> Option<Outcome>
     if let Some(outcome) = lt_before_min(store, a, b) {
         return Some(outcome);
     }
-    if let Some(outcome) = lt_before_max(store, a, b) {
+    if let Some(outcome) = lt_before_max(store, ends, a, b) {
         return Some(outcome);
     }
-    if let Some(outcome) = lt_of_min(store, a, b) {
+    if let Some(outcome) = lt_of_min(store, ends, a, b) {
         return Some(outcome);
     }
     if let Some(outcome) = lt_of_lt(store, a, b) {

@@ -5,7 +5,9 @@ ghost use Rattle.term_store.specs.Nodes.{IsNodes, IsNodeOver};
 ghost use Rattle.term_store.specs.Places.{tree_by_places};
 ghost use Rattle.simplify.specs.Simplified.{settled};
 ghost use Rattle.simplify.specs.Outcomes.{outcome_tree, IsOutcomeOver};
+ghost use Rattle.simplify.specs.Past.{AreEnds};
 
+use crate::ends::Ends;
 use crate::law::law;
 use crate::outcome::Outcome;
 use term_store::{Node, Store};
@@ -24,15 +26,17 @@ fn node_of(store: &Store, outcome: Outcome) -> Node
 }
 
 /// What a node comes to, law by law. Its term is at most 1,000,000 cycles later than an input.
-pub fn settle(store: &Store, node: Node) -> Node
+pub fn settle(store: &Store, ends: &[Ends], node: Node) -> Node
     requires nodes { IsNodes store.now.nodes }
+    requires ends { AreEnds store.now.nodes ends.now }
+    requires all { length ends.now ≡ length store.now.nodes }
     requires over { IsNodeOver (length store.now.nodes) node }
     requires short { span (tree_by_places store.now.nodes node) ≤ 1000000 }
     ensures over { IsNodeOver (length store.now.nodes) result }
     ensures tree { tree_by_places store.now.nodes result ≡ settled (tree_by_places store.now.nodes node) }
 {
     let mut last = node;
-    while let Some(outcome) = law(store, last) {
+    while let Some(outcome) = law(store, ends, last) {
         last = node_of(store, outcome);
     }
     last

@@ -13,8 +13,11 @@ ghost use Rattle.term_store.specs.Room.{HasRoom, TakesRoom};
 ghost use Rattle.simplify.specs.Laws.{IsReduced};
 ghost use Rattle.simplify.specs.Simplified.{simplified};
 ghost use Rattle.simplify.specs.Passing.{AreMarked, AreSimplified, HasSimplified};
+ghost use Rattle.simplify.specs.Past.{AreEnds};
 ghost use Rattle.term_store.specs.Compacted.{new_place, moved_node};
 
+use crate::chains::note_ends;
+use crate::ends::Ends;
 use crate::settling::settle;
 use rl_time::NoMemory;
 use std::alloc::Global;
@@ -45,16 +48,21 @@ pub fn simplify(alloc: Global, store: &mut Store, roots: &[Term]) -> Result<Vec<
     store.reserve(store.len())?;
     let mut became = Vec::with_capacity(alloc, marks.len())?;
     let mut places = Vec::with_capacity(alloc, roots.len())?;
-    simplify_marked(store, &marks, &mut became);
+    let mut ends = Vec::with_capacity(alloc, 2 * marks.len())?;
+    note_ends(store, &mut ends);
+    simplify_marked(store, &marks, &mut ends, &mut became);
     note_places(&became, roots, &mut places);
     Ok(places)
 }
 
 /// Simplifies the marked places in order, and notes where each is then.
-fn simplify_marked(store: &mut Store, marks: &[bool], became: &mut Vec<Term>)
+fn simplify_marked(store: &mut Store, marks: &[bool], ends: &mut Vec<Ends>, became: &mut Vec<Term>)
     requires nodes { IsNodes store.old.nodes }
     requires marked { AreMarked store.old.nodes marks.now }
     requires room { HasRoom store.old (length marks.now) }
+    requires ends { AreEnds store.old.nodes ends.old.items }
+    requires all { length ends.old.items ≡ length store.old.nodes }
+    requires ends_capacity { length store.old.nodes + length marks.now ≤ vec_capacity ends.old }
     requires empty { became.old.items ≡ [] }
     requires capacity { length marks.now ≤ vec_capacity became.old }
     ensures nodes { IsNodes store.new.nodes }
@@ -64,45 +72,65 @@ fn simplify_marked(store: &mut Store, marks: &[bool], became: &mut Vec<Term>)
     ensures room { TakesRoom store.old store.new (length marks.now) }
 {
     for place in 0..marks.len() {
-        let to = simplify_place(store, marks, became, place as u32);
+        let to = simplify_place(store, marks, ends, became, place as u32);
         became.push_reserved(to);
     }
 }
 
 /// Simplifies the term of a place where it is marked, and answers where it is then. For another place
 /// the answer is a filler.
-fn simplify_place(store: &mut Store, marks: &[bool], became: &[Term], place: u32) -> Term
+fn simplify_place(
+    store: &mut Store,
+    marks: &[bool],
+    ends: &mut Vec<Ends>,
+    became: &[Term],
+    place: u32,
+) -> Term
     requires nodes { IsNodes store.old.nodes }
     requires within { place < length marks.now }
     requires marked { AreMarked store.old.nodes marks.now }
     requires before { AreSimplified store.old.nodes marks.now place became.now }
     requires room { HasRoom store.old 1 }
+    requires ends { AreEnds store.old.nodes ends.old.items }
+    requires all { length ends.old.items ≡ length store.old.nodes }
+    requires capacity { length store.old.nodes + 1 ≤ vec_capacity ends.old }
     ensures nodes { IsNodes store.new.nodes }
     ensures grown { IsPrefix store.old.nodes store.new.nodes }
     ensures planted { is_marked marks.now place ≡ true → store.new.nodes ≡ plant_one store.old.nodes (simplified (tree store.old.nodes place)) }
     ensures passed_over { is_marked marks.now place ≡ false → store.new.nodes ≡ store.old.nodes }
     ensures after { AreSimplified store.new.nodes marks.now (place + 1) (became.now ++ result ∷ []) }
     ensures room { TakesRoom store.old store.new 1 }
+    ensures ends { AreEnds store.new.nodes ends.new.items }
+    ensures all { length ends.new.items ≡ length store.new.nodes }
+    ensures capacity { vec_capacity ends.new ≡ vec_capacity ends.old }
 {
     if !marks[place as usize] {
         return Term(0);
     }
     let node = store.node(Term(place));
-    simplify_node(store, became, node)
+    simplify_node(store, ends, became, node)
 }
 
 /// Plants what the term of a node is simplified, and answers its place. The operands are simplified.
-fn simplify_node(store: &mut Store, became: &[Term], node: Node) -> Term
+fn simplify_node(store: &mut Store, ends: &mut Vec<Ends>, became: &[Term], node: Node) -> Term
     requires nodes { IsNodes store.old.nodes }
     requires over { IsNodeOver (length became.now) node }
     requires operands { HasSimplified store.old.nodes became.now node }
     requires short { span (tree_by_places store.old.nodes node) ≤ 1000000 }
     requires room { HasRoom store.old 1 }
+    requires ends { AreEnds store.old.nodes ends.old.items }
+    requires all { length ends.old.items ≡ length store.old.nodes }
+    requires capacity { length store.old.nodes + 1 ≤ vec_capacity ends.old }
     ensures planted { IsPlanted store.old.nodes store.new.nodes (simplified (tree_by_places store.old.nodes node)) result }
     ensures room { TakesRoom store.old store.new 1 }
+    ensures ends { AreEnds store.new.nodes ends.new.items }
+    ensures all { length ends.new.items ≡ length store.new.nodes }
+    ensures capacity { vec_capacity ends.new ≡ vec_capacity ends.old }
 {
-    let last = settle(store, over_simplified(became, node));
-    store.put(last)
+    let last = settle(store, ends, over_simplified(became, node));
+    let to = store.put(last);
+    note_ends(store, ends);
+    to
 }
 
 /// The node over the simplified terms of its operands.

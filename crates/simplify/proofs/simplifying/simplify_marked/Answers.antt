@@ -17,4 +17,7 @@ loop-place-preserved c =
       simplified = subst (AreSimplified new.nodes marks (c.loop-place.place + 1)) (sym (c.push_reserved.ensures.items ∙ ap (λ xs. xs ++ c.simplify_place-to.result ∷ []) (sym c.deref.ensures.value))) step.after;
       room = room_more _ _ _ c.loop-place.place before.room step.room;
       capacity = omega (arith, c.push_reserved.ensures.capacity, before.capacity);
+      ends = step.ends;
+      all = step.all;
+      ends_capacity = omega (arith, step.capacity, before.ends_capacity);
     }

@@ -5,6 +5,7 @@ use Rattle.term_store.specs.Trees.{plant_one}
 use Rattle.term_store.specs.Places.{tree_by_places}
 use Rattle.simplify.specs.Simplified.{settled}
 use Rattle.simplify.proofs.Passed.{after_over, after_tree, after_span}
+use Rattle.simplify.proofs.Noted.{ends_grown}
 use Rattle.simplify.proofs.simplifying.simplify_node.Goals as goal
 
 pub settle-last-requires-clause-short : goal.settle-last-requires-clause-short
@@ -20,7 +21,7 @@ settle-last-requires-clause-over c =
 pub returns-clause-planted : goal.returns-clause-planted
 returns-clause-planted c =
     let ns = c.args.store.now.nodes in
-    let p = c.put.ensures.planted in
+    let p = c.put-to.ensures.planted in
     let is = c.settle-last.ensures.tree ∙ ap (λ n. settled (tree_by_places ns n)) c.over_simplified.ensures.node ∙ after_tree ns c.args.became.now c.args.node c.requires.operands in
     record {
       is_nodes = p.is_nodes;
@@ -29,3 +30,6 @@ returns-clause-planted c =
       within = p.within;
       tree_is = p.tree_is ∙ is;
     }
+
+pub note_ends-requires-clause-ends : goal.note_ends-requires-clause-ends
+note_ends-requires-clause-ends c = ends_grown _ _ _ c.put-to.ensures.planted.grown c.requires.ends
