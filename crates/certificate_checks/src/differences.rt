@@ -64,6 +64,30 @@ fn two_inputs(rt: HostRuntime) -> Result<(), Fail> {
     Ok(())
 }
 
+// Bounds that the others imply, between those that they don't, as they come and go.
+#[test]
+fn held_between_fresh(rt: HostRuntime) -> Result<(), Fail> {
+    let mut bounds = Bounds::new(rt.alloc(), 3)?;
+    for (i, j, w, word) in [
+        (0, 1, 5, "fresh"),
+        (1, 2, 4, "fresh"),
+        (0, 2, 9, "held"),
+        (0, 2, 8, "fresh"),
+        (0, 2, 8, "held"),
+    ] {
+        let added = add(&rt, rt.alloc(), &mut bounds, i, j, w)?;
+        assert_eq!(rt; added.0, word, "at {i} {j} {w}");
+    }
+    for least in [Some(8), Some(8), Some(9), Some(9), None] {
+        assert!(rt; bounds.inputs() == 3);
+        assert_eq!(rt; bounds.least(0, 2), least);
+        assert!(rt; bounds.assumptions().len() > 0);
+        bounds.undo();
+    }
+    assert_eq!(rt; bounds.assumptions().len(), 0);
+    Ok(())
+}
+
 #[test]
 fn sixty_four_inputs_far_apart(rt: HostRuntime) -> Result<(), Fail> {
     let mut bounds = Bounds::new(rt.alloc(), 64)?;

@@ -9,7 +9,8 @@ use Rattle.diff_bounds.specs.Bounds.{more, CanBeMet, Implies, IsSolution}
 use Rattle.diff_bounds.specs.Verdict.{IsContradiction, IsVerdict, grown}
 use Rattle.diff_bounds.specs.Pressing.{IsNear}
 use Rattle.diff_bounds.specs.Search.{IsBounds}
-use Rattle.diff_bounds.proofs.Least.{none_meets, meets_more, length_more}
+use Rattle.diff_bounds.proofs.Held.{meets_more}
+use Rattle.diff_bounds.proofs.Least.{none_meets, length_more}
 use Rattle.diff_bounds.proofs.Kept.{near_more, solves_fewer}
 use Rattle.diff_bounds.specs.Verdict.{IfContradiction}
 

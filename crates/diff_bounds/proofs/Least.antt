@@ -1,14 +1,15 @@
 -- What follows from what a search found: mending, contradictions, least bounds.
-use Rattle.std.proofs.Common.{◌≡◌, ℕ, zero, suc, ◌<◌, ◌≤◌, ◌+◌, refl, ap, subst, arith, sym, List, [], ◌∷◌, ◌++◌, length, Bool, true, false, Some, get_or}
+use Rattle.std.proofs.Common.{◌≡◌, ℕ, zero, suc, ◌<◌, ◌≤◌, ◌+◌, refl, ap, subst, arith, sym, List, [], ◌∷◌, ◌++◌, length, Bool, true, false, get_or}
 use Rattle.std.specs.Prelude.{ℤ, pos, negsuc, ◌+ℤ◌, ◌-ℤ◌, ◌≤ℤ◌, nat_lt, nat_eq, ◌&&◌, int_le}
 use Rattle.std.proofs.lemmas.Bool.{false≢true}
 use Rattle.std.proofs.lemmas.Int.{ints}
 use Rattle.std.proofs.lemmas.Bool.Decides.{nat_tests}
 use Rattle.refutation.specs.declared.assumption.Assumption.{Assumption}
 use Rattle.refutation.specs.Path.{Meets, MeetsAll, at, assumption, runs, sum_of, shows, is_negative}
-use Rattle.diff_bounds.specs.Bounds.{IsLeast, integers}
+use Rattle.diff_bounds.specs.Bounds.{integers}
 use Rattle.diff_bounds.specs.Search.{raised, HasChain, IsFound, AreMet}
 use Rattle.diff_bounds.proofs.Ending.{all_of, met_at, and_is}
+pub use Rattle.diff_bounds.proofs.Held.{meets_more}
 
 pub and_true : (a b : Bool) → (a && b) ≡ true → (a ≡ true) × (b ≡ true)
 and_true true b h = (refl, h)
@@ -44,10 +45,6 @@ none_meets x path (k ∷ chain) m h =
     let a = chain_shows x path i i (k ∷ chain) m p.0 in
     let b : sum_of path (k ∷ chain) ≤ℤ negsuc 0 = grind (arith, ints, p.1) in
     absurd (omega (arith, ints, a, b))
-
-pub meets_more : (x : ℕ → ℤ) (path : List Assumption) (a : Assumption) → MeetsAll x path → Meets x a → MeetsAll x (path ++ a ∷ [])
-meets_more x [] a m h = (h, tt)
-meets_more x (b ∷ path) a m h = (m.0, meets_more x path a m.1 h)
 
 -- where the new assumption asks for no more than was found, the raised solution meets it too
 pub mended : (n : ℕ) (edges : List Assumption) (y d : ℕ → ℕ) (i j need : ℕ) (w : ℤ) → IsFound n edges y d i need
@@ -94,10 +91,10 @@ runs_more edges a i j (k ∷ chain) h =
     )
 
 -- where it asks for more, a chain that begins with it and leads back has a negative sum
-pub negative : (n : ℕ) (edges : List Assumption) (y d : ℕ → ℕ) (i j need : ℕ) (w : ℤ) → IsFound n edges y d i need
+pub negative : (n : ℕ) (edges : List Assumption) (y d : ℕ → ℕ) (i j need : ℕ) (w : ℤ) → d i ≡ 0
     → (pos (y i) -ℤ pos (y j)) ≡ (w +ℤ pos need) → d j < need → (h : HasChain n edges j i (raised y d j -ℤ raised y d i))
     → is_negative (edges ++ assumption i j w ∷ []) (length edges ∷ h.chain) ≡ true
-negative n edges y d i j need w f is lt h =
+negative n edges y d i j need w z is lt h =
     let path = edges ++ assumption i j w ∷ [] in
     let new : at path (length edges) ≡ assumption i j w = at_new edges (assumption i j w) in
     let more = runs_more edges (assumption i j w) j i h.chain h.runs in
@@ -107,22 +104,12 @@ negative n edges y d i j need w f is lt h =
     (and_is (nat_lt (length edges) (length path)) _ (lt_is (length edges) (length path) (omega (arith, long))) (subst (λ b. nat_eq b.from i ≡ true) (sym new) (eq_is i)))
     (subst (λ b. runs path b.to i h.chain ≡ true) (sym new) more.0) in
     let sum : sum_of path (length edges ∷ h.chain) ≤ℤ negsuc 0 =
-    subst (λ b. (b.bound +ℤ sum_of path h.chain) ≤ℤ negsuc 0) (sym new) (let s = h.sum in let m = more.1 in let z = f.here in omega (arith, ints, s, m, z, is, lt)) in
+    subst (λ b. (b.bound +ℤ sum_of path h.chain) ≤ℤ negsuc 0) (sym new) (let s = h.sum in let m = more.1 in omega (arith, ints, s, m, z, is, lt)) in
     let both : shows path (length edges ∷ h.chain) i i (negsuc 0) ≡ true = and_is (runs path i i (length edges ∷ h.chain)) _ run (int_true _ _ sum) in
     subst (λ b. shows path (length edges ∷ h.chain) b.from b.from (negsuc 0) ≡ true) (sym new) both
   where
     eq_is : (i : ℕ) → nat_eq i i ≡ true
     eq_is i = grind (arith, nat_tests)
-
--- a chain that was found tells the least bound that is implied
-pub least_some : (n : ℕ) (edges : List Assumption) (y d : ℕ → ℕ) (i j limit : ℕ) → IsFound n edges y d j limit
-    → HasChain n edges i j (raised y d i -ℤ raised y d j) → IsLeast edges i j (Some (raised y d i -ℤ raised y d j))
-least_some n edges y d i j limit f h = ((λ x m. let a = chain_shows x edges i j h.chain m h.runs in let s = h.sum in omega (arith, ints, a, s)), (λ v all. all (raised y d) f.meets))
-
--- and no chain from i to j has a smaller sum
-pub least_of_chains : (n : ℕ) (edges : List Assumption) (y d : ℕ → ℕ) (i j limit : ℕ) (chain : List ℕ) → IsFound n edges y d j limit
-    → runs edges i j chain ≡ true → (raised y d i -ℤ raised y d j) ≤ℤ sum_of edges chain
-least_of_chains n edges y d i j limit chain f h = chain_shows (raised y d) edges i j chain f.meets h
 
 -- the kept list, raised, meets the assumptions and the new one
 pub mended_list : (n : ℕ) (edges : List Assumption) (y d : ℕ → ℕ) (kept : List ℕ) (i j need : ℕ) (w : ℤ) → AreMet n edges y → IsFound n edges y d i need

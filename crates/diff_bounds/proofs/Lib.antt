@@ -1,5 +1,6 @@
 pub mod Gaps
 pub mod Running
+pub mod Held
 pub mod Ending
 pub mod Least
 pub mod Unbounded
@@ -7,5 +8,6 @@ pub mod Steps
 pub mod Listed
 pub mod Opening
 pub mod Kept
+pub mod Early
 pub mod Answering
 pub mod Cycles

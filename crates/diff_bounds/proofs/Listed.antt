@@ -1,11 +1,12 @@
--- The assumptions by the input that each leads to, as one more is added, or the last is taken away.
-use Rattle.std.proofs.Common.{◌≡◌, ℕ, ◌<◌, ◌≤◌, ◌+◌, subst, arith, sym, ap, ◌∙◌, List, [], ◌∷◌, ◌++◌, inl, inr, ◌⊎◌, length, get_or}
-use Rattle.std.proofs.Math.Seq.{get_or-append_seam}
-use Rattle.std.proofs.lemmas.List.{get_or_append_left}
+-- The assumptions that are listed for the input that each leads to, as one more is added, or the last is taken away.
+use Rattle.std.proofs.Common.{◌≡◌, ℕ, ◌<◌, ◌≤◌, ◌+◌, subst, arith, sym, ap, ◌∙◌, List, [], ◌∷◌, ◌++◌, inl, inr, ◌⊎◌, length, get_or, take}
+use Rattle.std.proofs.lemmas.List.{get_or_append_left, take-append-le}
+use Rattle.std.proofs.Math.Seq.{get_or-append_seam, take-append_seam}
 use Rattle.refutation.specs.declared.assumption.Assumption.{Assumption}
 use Rattle.refutation.specs.Path.{at}
 use Rattle.diff_bounds.specs.declared.ends.Ends.{Ends}
-use Rattle.diff_bounds.specs.Search.{IsLast, IsListed}
+use Rattle.diff_bounds.specs.Bounds.{Implies}
+use Rattle.diff_bounds.specs.Search.{IsHeld, IsLast, IsListed}
 use Rattle.diff_bounds.proofs.Least.{at_more, at_new, length_more}
 use Rattle.diff_bounds.proofs.Steps.{length_last}
 
@@ -16,7 +17,7 @@ none_listed n ends long none empty = record {
   lasts = λ k h. let z = none k in record {
     before = omega (arith, z);
     leads = λ f q. absurd (omega (arith, q, z));
-    others = λ f le lt to. omega (arith, lt);
+    others = λ f le lt to. absurd (omega (arith, lt));
   };
   earlier = λ e h. absurd (omega (arith, h));
 }
@@ -25,18 +26,34 @@ module _ (edges : List Assumption) (a : Assumption) where
   abbrev more : List Assumption
   more = edges ++ a ∷ []
 
+  held_more : (f : ℕ) → f < length edges → IsHeld edges f → IsHeld more f
+  held_more f lt held =
+      subst (λ b. Implies (take f more) b.from b.to b.bound) (sym (at_more edges a f lt))
+      (subst (λ es. Implies es (at edges f).from (at edges f).to (at edges f).bound) (sym (take-append-le f edges (a ∷ []) (omega (arith, lt)))) held)
+
+  held_fewer : (f : ℕ) → f < length edges → IsHeld more f → IsHeld edges f
+  held_fewer f lt held =
+      subst (λ es. Implies es (at edges f).from (at edges f).to (at edges f).bound) (take-append-le f edges (a ∷ []) (omega (arith, lt)))
+      (subst (λ b. Implies (take f more) b.from b.to b.bound) (at_more edges a f lt) held)
+
+  held_new : (f : ℕ) → f ≡ length edges → Implies edges a.from a.to a.bound → IsHeld more f
+  held_new f q all =
+      subst (λ (f : ℕ). IsHeld more f) (sym q)
+      (subst (λ b. Implies (take (length edges) more) b.from b.to b.bound) (sym (at_new edges a))
+      (subst (λ es. Implies es a.from a.to a.bound) (sym (take-append_seam edges (a ∷ []))) all))
+
   last_more : (k e h : ℕ) → e ≤ length edges → IsLast edges k e h → IsLast more k e h
   last_more k e h within last = record {
     before = last.before;
     leads = λ f q. subst (λ b. b.to ≡ k) (sym (at_more edges a f (let le = last.before in omega (arith, q, le, within)))) (last.leads f q);
-    others = λ f le lt to. last.others f le lt (subst (λ b. b.to ≡ k) (at_more edges a f (omega (arith, lt, within))) to);
+    others = λ f le lt to. held_more f (omega (arith, lt, within)) (last.others f le lt (subst (λ b. b.to ≡ k) (at_more edges a f (omega (arith, lt, within))) to));
   }
 
   last_fewer : (k e h : ℕ) → e ≤ length edges → IsLast more k e h → IsLast edges k e h
   last_fewer k e h within last = record {
     before = last.before;
     leads = λ f q. subst (λ b. b.to ≡ k) (at_more edges a f (let le = last.before in omega (arith, q, le, within))) (last.leads f q);
-    others = λ f le lt to. last.others f le lt (subst (λ b. b.to ≡ k) (sym (at_more edges a f (omega (arith, lt, within)))) to);
+    others = λ f le lt to. held_fewer f (omega (arith, lt, within)) (last.others f le lt (subst (λ b. b.to ≡ k) (sym (at_more edges a f (omega (arith, lt, within)))) to));
   }
 
   new_leads : (k f : ℕ) → f ≡ length edges → (at more f).to ≡ k → a.to ≡ k
@@ -49,7 +66,7 @@ module _ (edges : List Assumption) (a : Assumption) where
   last_new k h is q = let long = length_more edges a in record {
     before = omega (arith, long, q);
     leads = λ f r. leads_new k f (omega (arith, r, q)) (sym is);
-    others = λ f le lt to. omega (arith, le, lt, long, q);
+    others = λ f le lt to. absurd (omega (arith, le, lt, long, q));
   }
 
   apart : (f : ℕ) → f < length edges + 1 → (f < length edges) ⊎ (f ≡ length edges)
@@ -59,7 +76,14 @@ module _ (edges : List Assumption) (a : Assumption) where
   last_other k h other last = let long = length_more edges a in let m = last_more k (length edges) h (omega arith) last in record {
     before = let le = last.before in omega (arith, le, long);
     leads = m.leads;
-    others = λ f le lt to. elim (apart f (omega (arith, lt, long))) [ inl less ↦ m.others f le less to | inr q ↦ other (new_leads k f q to) ];
+    others = λ f le lt to. elim (apart f (omega (arith, lt, long))) [ inl less ↦ m.others f le less to | inr q ↦ absurd (other (new_leads k f q to)) ];
+  }
+
+  last_held : (k h : ℕ) → Implies edges a.from a.to a.bound → IsLast edges k (length edges) h → IsLast more k (length more) h
+  last_held k h all last = let long = length_more edges a in let m = last_more k (length edges) h (omega arith) last in record {
+    before = let le = last.before in omega (arith, le, long);
+    leads = m.leads;
+    others = λ f le lt to. elim (apart f (omega (arith, lt, long))) [ inl less ↦ m.others f le less to | inr q ↦ held_new f q all ];
   }
 
   last_before : (k h : ℕ) → (a.to ≡ k → ⊥) → IsLast more k (length more) h → IsLast edges k (length edges) h
@@ -75,41 +99,54 @@ module _ (edges : List Assumption) (a : Assumption) where
   same_or : (k : ℕ) → (k ≡ a.to) ⊎ (a.to ≡ k → ⊥)
   same_or k = grind arith
 
-  pub more_listed : (n : ℕ) (old new : Ends) → IsListed n edges old → length new.lasts.items ≡ length old.lasts.items
-      → get_or new.lasts.items a.to 0 ≡ length edges + 1 → ((l : ℕ) → (l ≡ a.to) ⊎ (get_or new.lasts.items l 0 ≡ get_or old.lasts.items l 0))
-      → a.to < n → new.earlier.items ≡ old.earlier.items ++ get_or old.lasts.items a.to 0 ∷ [] → IsListed n more new
-  more_listed n old new s long here others to put = record {
-    inputs = long ∙ s.inputs;
-    numbers = numbers;
-    lasts = λ k h. elim (same_or k) [
-      | inl q ↦ last_new k (get_or new.lasts.items k 0) q (ap (λ (k : ℕ). get_or new.lasts.items k 0) q ∙ here)
-      | inr away ↦ elim (others k) [
-        | inl q ↦ absurd (away (sym q))
-        | inr i ↦ last_other k (get_or new.lasts.items k 0) away (subst (λ (h : ℕ). IsLast edges k (length edges) h) (sym i) (s.lasts k h))
-      ]
-    ];
-    earlier = λ e h. elim (apart e (let l = length_more edges a in omega (arith, h, l))) [ inl less ↦ before e less | inr q ↦ last e q ];
-  }
-    where
-      numbers : length new.earlier.items ≡ length more
-      numbers = ap length put ∙ (let l = length_more edges a in let m = s.numbers in let n = length_last old.earlier.items (get_or old.lasts.items a.to 0) in omega (arith, l, m, n))
+  -- the last assumption's own number is put at the end
+  module _ (n : ℕ) (old new : Ends) (s : IsListed n edges old) (to : a.to < n) (put : new.earlier.items ≡ old.earlier.items ++ get_or old.lasts.items a.to 0 ∷ []) where
+    numbers_more : length new.earlier.items ≡ length more
+    numbers_more = ap length put ∙ (let l = length_more edges a in let m = s.numbers in let n = length_last old.earlier.items (get_or old.lasts.items a.to 0) in omega (arith, l, m, n))
 
-      before : (e : ℕ) → e < length edges → IsLast more (at more e).to e (get_or new.earlier.items e 0)
-      before e less =
-          subst (λ (b : Assumption). IsLast more b.to e (get_or new.earlier.items e 0)) (sym (at_more edges a e less))
-          (subst (λ (h : ℕ). IsLast more (at edges e).to e h) (sym (ap (λ xs. get_or xs e 0) put ∙ get_or_append_left old.earlier.items (get_or old.lasts.items a.to 0 ∷ []) 0 e (let m = s.numbers in omega (arith, m, less))))
-          (last_more (at edges e).to e (get_or old.earlier.items e 0) (omega (arith, less)) (s.earlier e less)))
+    earlier_before : (e : ℕ) → e < length edges → IsLast more (at more e).to e (get_or new.earlier.items e 0)
+    earlier_before e less =
+        subst (λ (b : Assumption). IsLast more b.to e (get_or new.earlier.items e 0)) (sym (at_more edges a e less))
+        (subst (λ (h : ℕ). IsLast more (at edges e).to e h) (sym (ap (λ xs. get_or xs e 0) put ∙ get_or_append_left old.earlier.items (get_or old.lasts.items a.to 0 ∷ []) 0 e (let m = s.numbers in omega (arith, m, less))))
+        (last_more (at edges e).to e (get_or old.earlier.items e 0) (omega (arith, less)) (s.earlier e less)))
 
-      seam : get_or new.earlier.items (length edges) 0 ≡ get_or old.lasts.items a.to 0
-      seam = ap (λ xs. get_or xs (length edges) 0) put ∙ subst (λ (m : ℕ). get_or (old.earlier.items ++ get_or old.lasts.items a.to 0 ∷ []) m 0 ≡ get_or old.lasts.items a.to 0) s.numbers
-          (get_or-append_seam old.earlier.items (get_or old.lasts.items a.to 0) [] 0)
+    earlier_seam : get_or new.earlier.items (length edges) 0 ≡ get_or old.lasts.items a.to 0
+    earlier_seam = ap (λ xs. get_or xs (length edges) 0) put ∙ subst (λ (m : ℕ). get_or (old.earlier.items ++ get_or old.lasts.items a.to 0 ∷ []) m 0 ≡ get_or old.lasts.items a.to 0) s.numbers
+        (get_or-append_seam old.earlier.items (get_or old.lasts.items a.to 0) [] 0)
 
-      last : (e : ℕ) → e ≡ length edges → IsLast more (at more e).to e (get_or new.earlier.items e 0)
-      last e q =
-          subst (λ (e : ℕ). IsLast more (at more e).to e (get_or new.earlier.items e 0)) (sym q)
-          (subst (λ (b : Assumption). IsLast more b.to (length edges) (get_or new.earlier.items (length edges) 0)) (sym (at_new edges a))
-          (subst (λ (h : ℕ). IsLast more a.to (length edges) h) (sym seam)
-          (last_more a.to (length edges) (get_or old.lasts.items a.to 0) (omega arith) (s.lasts a.to to))))
+    earlier_last : (e : ℕ) → e ≡ length edges → IsLast more (at more e).to e (get_or new.earlier.items e 0)
+    earlier_last e q =
+        subst (λ (e : ℕ). IsLast more (at more e).to e (get_or new.earlier.items e 0)) (sym q)
+        (subst (λ (b : Assumption). IsLast more b.to (length edges) (get_or new.earlier.items (length edges) 0)) (sym (at_new edges a))
+        (subst (λ (h : ℕ). IsLast more a.to (length edges) h) (sym earlier_seam)
+        (last_more a.to (length edges) (get_or old.lasts.items a.to 0) (omega arith) (s.lasts a.to to))))
+
+    earlier_more : (e : ℕ) → e < length more → IsLast more (at more e).to e (get_or new.earlier.items e 0)
+    earlier_more e h = elim (apart e (let l = length_more edges a in omega (arith, h, l))) [ inl less ↦ earlier_before e less | inr q ↦ earlier_last e q ]
+
+    pub more_listed : length new.lasts.items ≡ length old.lasts.items → get_or new.lasts.items a.to 0 ≡ length edges + 1
+        → ((l : ℕ) → (l ≡ a.to) ⊎ (get_or new.lasts.items l 0 ≡ get_or old.lasts.items l 0)) → IsListed n more new
+    more_listed long here others = record {
+      inputs = long ∙ s.inputs;
+      numbers = numbers_more;
+      lasts = λ k h. elim (same_or k) [
+        | inl q ↦ last_new k (get_or new.lasts.items k 0) q (ap (λ (k : ℕ). get_or new.lasts.items k 0) q ∙ here)
+        | inr away ↦ elim (others k) [
+          | inl q ↦ absurd (away (sym q))
+          | inr i ↦ last_other k (get_or new.lasts.items k 0) away (subst (λ (h : ℕ). IsLast edges k (length edges) h) (sym i) (s.lasts k h))
+        ]
+      ];
+      earlier = earlier_more;
+    }
+
+    -- one that the others imply need not be listed
+    pub held_listed : new.lasts.items ≡ old.lasts.items → Implies edges a.from a.to a.bound → IsListed n more new
+    held_listed same all = record {
+      inputs = ap length same ∙ s.inputs;
+      numbers = numbers_more;
+      lasts = λ k h. subst (λ (h : ℕ). IsLast more k (length more) h) (sym (ap (λ xs. get_or xs k 0) same)) (last_held k (get_or old.lasts.items k 0) all (s.lasts k h));
+      earlier = earlier_more;
+    }
 
   pub fewer_listed : (n h : ℕ) (old new : Ends) → IsListed n more old → length new.lasts.items ≡ length old.lasts.items
       → get_or new.lasts.items a.to 0 ≡ h → ((l : ℕ) → (l ≡ a.to) ⊎ (get_or new.lasts.items l 0 ≡ get_or old.lasts.items l 0))

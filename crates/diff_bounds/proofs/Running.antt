@@ -5,14 +5,14 @@ use Rattle.std.proofs.lemmas.Int.{ints}
 use Rattle.std.proofs.lemmas.Bool.Decides.{nat_tests}
 use Rattle.refutation.specs.declared.assumption.Assumption.{Assumption}
 use Rattle.refutation.specs.Path.{Meets, at}
-use Rattle.diff_bounds.specs.Search.{raised, IsStep, IsRunning, AreMet, IsLast, IsRelaxed, of, unset}
+use Rattle.diff_bounds.specs.Search.{raised, IsHeld, IsStep, IsRunning, AreMet, IsLast, IsRelaxed, of, unset}
 
 pub same_or : (a b : ℕ) → (a ≡ b) ⊎ ((a < b) ⊎ (b < a))
 same_or a b = grind arith
 
--- the assumptions from h to e are met already, or lead elsewhere
+-- the assumptions from h to e are met already or held, or lead elsewhere
 pub skip : (n : ℕ) (edges : List Assumption) (y d v t : ℕ → ℕ) (turn target limit k e h : ℕ) → IsRunning n edges y d v t turn target limit k e
-    → ((f : ℕ) → h ≤ f → f < e → (at edges f).to ≡ k → Meets (raised y d) (at edges f)) → IsRunning n edges y d v t turn target limit k h
+    → ((f : ℕ) → h ≤ f → f < e → (at edges f).to ≡ k → Meets (raised y d) (at edges f) ⊎ IsHeld edges f) → IsRunning n edges y d v t turn target limit k h
 skip n edges y d v t turn target limit k e h r met = record {
   here = r.here;
   most = r.most;
@@ -54,9 +54,10 @@ lower_at n edges y d v t d' v' turn target limit a k e met r hk settled he from 
   top = λ p hp tp. let m = r.top p hp tp in let dp = same p (settled_not p hp tp) in let dk = k_same in omega (arith, m, dp, dk);
   closed = λ f h. elim (r.closed f h) [
     | inl u ↦ inl u
-    | inr (inr m) ↦ keeps f h m
+    | inr (inr (inl m)) ↦ keeps f h m
+    | inr (inr (inr i)) ↦ inr (inr (inr i))
     | inr (inl p) ↦ elim (same_or e f) [
-      | inl q ↦ inr (inr (subst (λ (f : ℕ). Meets (raised y d') (at edges f)) q at_e))
+      | inl q ↦ inr (inr (inl (subst (λ (f : ℕ). Meets (raised y d') (at edges f)) q at_e)))
       | inr (inl lt) ↦ let le = p.1 in absurd (omega (arith, lt, le))
       | inr (inr gt) ↦ inr (inl (p.0, gt))
     ]
@@ -144,10 +145,10 @@ lower_at n edges y d v t d' v' turn target limit a k e met r hk settled he from 
     lowers : (l : ℕ) → d' l ≤ d l
     lowers l = elim (low.others l) [ inl q ↦ let s = less_at l q in omega (arith, s) | inr s ↦ let i = s.0 in omega (arith, i) ]
 
-    keeps : (f : ℕ) → f < length edges → Meets (raised y d) (at edges f) → (n ≤ t (at edges f).to) ⊎ ((((at edges f).to ≡ k) × (f < e)) ⊎ Meets (raised y d') (at edges f))
+    keeps : (f : ℕ) → f < length edges → Meets (raised y d) (at edges f) → (n ≤ t (at edges f).to) ⊎ ((((at edges f).to ≡ k) × (f < e)) ⊎ (Meets (raised y d') (at edges f) ⊎ IsHeld edges f))
     keeps f h m = let b = (at edges f).to in let hb = (met f h).1.0 in elim (r.late b hb) [
       | inr i ↦ inl (omega (arith, i))
-      | inl lt ↦ let ts = r.turns in let i = same b (settled_not b hb (omega (arith, lt, ts))) in let g = lowers (at edges f).from in inr (inr (omega (arith, ints, m, i, g)))
+      | inl lt ↦ let ts = r.turns in let i = same b (settled_not b hb (omega (arith, lt, ts))) in let g = lowers (at edges f).from in inr (inr (inl (omega (arith, ints, m, i, g))))
     ]
 
 -- k, the nearest that is not settled, is settled
@@ -212,7 +213,7 @@ pub relaxed : (n : ℕ) (edges : List Assumption) (y : ℕ → ℕ) (t : ℕ →
 relaxed n edges y t ds vs ds' vs' turn target limit k e met r settled he to (inl same) =
     subst (λ ds'. IsRunning n edges y (of ds') (of vs') t turn target limit k e) (sym same.0)
     (subst (λ vs'. IsRunning n edges y (of ds) (of vs') t turn target limit k e) (sym same.1.0)
-    (skip n edges y (of ds) (of vs) t turn target limit k (e + 1) e r (λ f le lt to. subst (λ (f : ℕ). Meets (raised y (of ds)) (at edges f)) (only f le lt) same.1.1)))
+    (skip n edges y (of ds) (of vs) t turn target limit k (e + 1) e r (λ f le lt to. inl (subst (λ (f : ℕ). Meets (raised y (of ds)) (at edges f)) (only f le lt) same.1.1))))
   where
     only : (f : ℕ) → e ≤ f → f < e + 1 → e ≡ f
     only f le lt = omega (arith, le, lt)
@@ -220,10 +221,10 @@ relaxed n edges y t ds vs ds' vs' turn target limit k e met r settled he to (inr
     lower_at n edges y (of ds) (of vs) t (of ds') (of vs') turn target limit (at edges e).from k e met r (subst (λ (k : ℕ). k < n) to (met e he).1.0) settled he refl to
     (record { others = low.others; less = low.less; via = low.via; exact = subst (λ (k : ℕ). raised y (of ds') (at edges e).from ≡ ((at edges e).bound +ℤ raised y (of ds) k)) to low.exact })
 
--- those between the last before e that leads to k, and e, lead elsewhere
+-- those between the last before e that is listed for k, and e, are held or lead elsewhere
 pub passed : (n : ℕ) (edges : List Assumption) (y d v t : ℕ → ℕ) (turn target limit k e h : ℕ) → IsRunning n edges y d v t turn target limit k e
     → IsLast edges k e h → IsRunning n edges y d v t turn target limit k h
-passed n edges y d v t turn target limit k e h r last = skip n edges y d v t turn target limit k e h r (λ f le lt to. absurd (last.others f le lt to))
+passed n edges y d v t turn target limit k e h r last = skip n edges y d v t turn target limit k e h r (λ f le lt to. inr (last.others f le lt to))
 
 abbrev pub marked : ℕ → ℕ → ℕ
 marked n t = if nat_lt t n then 0 else 1

@@ -1,10 +1,10 @@
 -- What a search for the chains into one input finds: how far each number of the kept solution is to be raised.
-use Rattle.std.specs.Prelude.{◌≡◌, ℕ, ℤ, pos, ◌<◌, ◌≤◌, ◌+◌, ◌+ℤ◌, ◌-ℤ◌, ◌≤ℤ◌, true, List, [], ◌∷◌, length, get_or, nat_lt, if◌then◌else◌, ◌⊎◌}
+use Rattle.std.specs.Prelude.{◌≡◌, ℕ, ℤ, pos, ◌<◌, ◌≤◌, ◌+◌, ◌+ℤ◌, ◌-ℤ◌, ◌≤ℤ◌, true, List, [], ◌∷◌, length, take, get_or, nat_lt, if◌then◌else◌, ◌⊎◌}
 use Rattle.refutation.specs.declared.assumption.Assumption.{Assumption}
 use Rattle.refutation.specs.Path.{Meets, MeetsAll, at, runs, sum_of}
 use Rattle.diff_bounds.specs.declared.ends.Ends.{Ends}
 use Rattle.diff_bounds.specs.declared.search.Search.{Search}
-use Rattle.diff_bounds.specs.Bounds.{IsSolution}
+use Rattle.diff_bounds.specs.Bounds.{IsSolution, Implies}
 use Rattle.diff_bounds.specs.Pressing.{AreNear}
 
 -- y, each number raised
@@ -25,6 +25,10 @@ pub record IsFound (n : ℕ) (edges : List Assumption) (y d : ℕ → ℕ) (targ
   pub meets : MeetsAll (raised y d) edges
   pub shown : (k : ℕ) → k < n → (limit ≤ d k) ⊎ HasChain n edges k target (raised y d k -ℤ raised y d target)
 
+-- the assumption of this number is implied by those before it
+abbrev pub IsHeld : List Assumption → ℕ → Type 0
+IsHeld edges f = Implies (take f edges) (at edges f).from (at edges f).to (at edges f).bound
+
 -- the step from l that its number in v names
 pub record IsStep (n : ℕ) (edges : List Assumption) (y d v t : ℕ → ℕ) (l : ℕ) : Type 0 where
   pub known : v l < length edges
@@ -40,7 +44,7 @@ pub record IsRunning (n : ℕ) (edges : List Assumption) (y d v t : ℕ → ℕ)
   pub most : (l : ℕ) → l < n → d l ≤ limit
   pub order : (a b : ℕ) → a < n → b < n → t a < n → n ≤ t b → d a ≤ d b
   pub top : (a : ℕ) → a < n → t a < n → d a ≤ d k
-  pub closed : (f : ℕ) → f < length edges → (n ≤ t (at edges f).to) ⊎ ((((at edges f).to ≡ k) × (f < e)) ⊎ Meets (raised y d) (at edges f))
+  pub closed : (f : ℕ) → f < length edges → (n ≤ t (at edges f).to) ⊎ ((((at edges f).to ≡ k) × (f < e)) ⊎ (Meets (raised y d) (at edges f) ⊎ IsHeld edges f))
   pub steps : (l : ℕ) → l < n → (l ≡ target) ⊎ ((limit ≤ d l) ⊎ IsStep n edges y d v t l)
   pub late : (l : ℕ) → l < n → (t l < turn) ⊎ (t l ≡ n)
   pub turns : turn ≤ n
@@ -68,13 +72,14 @@ pub record IsLowered (y d v d' v' : ℕ → ℕ) (edge : Assumption) (e : ℕ) :
 abbrev pub IsRelaxed : (ℕ → ℕ) → List ℕ → List ℕ → List ℕ → List ℕ → Assumption → ℕ → Type 0
 IsRelaxed y ds vs ds' vs' edge e = ((ds' ≡ ds) × ((vs' ≡ vs) × Meets (raised y (of ds)) edge)) ⊎ IsLowered y (of ds) (of vs) (of ds') (of vs') edge e
 
--- h is one more than the number of the last assumption before number e that leads to k; 0 where none does
+-- h is one more than the number of the last assumption before number e that is listed for k, 0 where none is: each after it
+-- that leads to k is implied by those before it
 pub record IsLast (edges : List Assumption) (k e h : ℕ) : Type 0 where
   pub before : h ≤ e
   pub leads : (f : ℕ) → f + 1 ≡ h → (at edges f).to ≡ k
-  pub others : (f : ℕ) → h ≤ f → f < e → (at edges f).to ≡ k → ⊥
+  pub others : (f : ℕ) → h ≤ f → f < e → (at edges f).to ≡ k → IsHeld edges f
 
--- for each of n inputs the last assumption that leads to it, and for each assumption the one before it that leads to the same
+-- for each of n inputs the last assumption that is listed for it, and for each assumption the one listed before it for the same input
 pub record IsListed (n : ℕ) (edges : List Assumption) (ends : Ends) : Type 0 where
   pub inputs : length ends.lasts.items ≡ n
   pub numbers : length ends.earlier.items ≡ length edges
@@ -108,9 +113,12 @@ pub record IsBounds (n : ℕ) (edges : List Assumption) (ys : List ℕ) : Type 0
   pub near : AreNear n edges
   pub solution : IsSolution n edges ys
 
--- a search of the chains to the target is done: where a number has to be raised by less than the limit, the input is settled
-pub record IsSearched (n : ℕ) (edges : List Assumption) (ys : List ℕ) (s : Search) (target limit : ℕ) : Type 0 where
+-- a search is at its end: the input asked for is so near as is enough, or it is settled, or each input below the limit is settled
+abbrev pub IsEnded : ℕ → (ℕ → ℕ) → (ℕ → ℕ) → ℕ → ℕ → ℕ → Type 0
+IsEnded n d t limit asked enough = (d asked < enough) ⊎ ((t asked < n) ⊎ ((l : ℕ) → l < n → (t l < n) ⊎ (limit ≤ d l)))
+
+-- a search of the chains to the target is done
+pub record IsSearched (n : ℕ) (edges : List Assumption) (ys : List ℕ) (s : Search) (target limit asked enough : ℕ) : Type 0 where
   pub sized : IsSized n s
-  pub found : IsFound n edges (of ys) (of s.distances.items) target limit
-  pub settled : (l : ℕ) → l < n → (get_or s.turns.items l 0 < n) ⊎ (limit ≤ get_or s.distances.items l 0)
+  pub ended : IsEnded n (of s.distances.items) (of s.turns.items) limit asked enough
   pub running : (turn : ℕ) × ((k : ℕ) × IsRunning n edges (of ys) (of s.distances.items) (of s.vias.items) (of s.turns.items) turn target limit k 0)

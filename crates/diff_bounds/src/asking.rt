@@ -5,7 +5,7 @@ ghost use Rattle.diff_bounds.specs.Search.{IsSized, IsBounds, IsListed};
 
 use crate::ends::Ends;
 use crate::following::follow;
-use crate::search::Search;
+use crate::search::{Question, Search};
 use refutation::{Assumption, Chain};
 use rl_time::NoMemory;
 use std::alloc::Global;
@@ -44,7 +44,13 @@ pub(crate) fn least(
     ensures least { IsLeast edges.now i j result }
     ensures sized { IsSized n search.new }
 {
-    search.run(edges, ends, kept, j, FAR, n);
+    let question = Question {
+        target: j,
+        limit: FAR,
+        asked: i,
+        enough: 0,
+    };
+    search.run(edges, ends, kept, question, n);
     let distance = search.distance(i);
     if distance < FAR {
         Some(difference(kept[i as usize], distance, kept[j as usize]))
@@ -74,11 +80,17 @@ pub(crate) fn shortest(
     ensures short { IfOk result (λ found. IfSome found (λ chain. length chain < n)) }
     ensures sized { IsSized n search.new }
 {
-    search.run(edges, ends, kept, j, FAR, n);
+    let question = Question {
+        target: j,
+        limit: FAR,
+        asked: i,
+        enough: 0,
+    };
+    search.run(edges, ends, kept, question, n);
     if search.distance(i) >= FAR {
         return Ok(None);
     }
     let mut chain = Chain::new(alloc);
-    follow(&mut chain, edges, kept, search, i, j, FAR, n)?;
+    follow(&mut chain, edges, kept, search, question, n)?;
     Ok(Some(chain))
 }

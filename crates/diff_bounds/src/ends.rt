@@ -1,5 +1,6 @@
-/// The assumptions by the input that each leads to: for each input the last that leads to it, and for each assumption the
-/// one before it that leads to the same input. Each is one more than the assumption's number, and 0 where there is none.
+/// Assumptions by the input that each leads to. One that is implied by those before it need not be listed. For each input
+/// this is the last that is listed for it, and for each assumption, listed or not, the last one before it that is listed for
+/// the same input. Each is one more than the assumption's number, and 0 where there is none.
 #[derive(Drop)]
 pub(crate) struct Ends {
     pub lasts: Vec<u32>,

@@ -9,7 +9,7 @@ use crate::added::Added;
 use crate::ends::Ends;
 use crate::following::follow;
 use crate::pressing::press;
-use crate::search::Search;
+use crate::search::{Question, Search};
 use refutation::{Assumption, Chain};
 use rl_time::NoMemory;
 use std::alloc::Global;
@@ -77,7 +77,13 @@ fn is_implied(
     ensures sized { IsSized n search.new }
 {
     let room = room(edge, kept);
-    search.run(edges, ends, kept, edge.to, room, n);
+    let question = Question {
+        target: edge.to,
+        limit: room,
+        asked: edge.from,
+        enough: room,
+    };
+    search.run(edges, ends, kept, question, n);
     search.distance(edge.from) < room
 }
 
@@ -105,11 +111,17 @@ fn mend(
     ensures unchanged { OnErr result (kept.new ≡ kept.old) }
     ensures sized { IsSized n search.new }
 {
-    search.run(edges, ends, kept, edge.from, by, n);
+    let question = Question {
+        target: edge.from,
+        limit: by,
+        asked: edge.to,
+        enough: 0,
+    };
+    search.run(edges, ends, kept, question, n);
     if search.distance(edge.to) < by {
         let mut chain = Chain::new(alloc);
         chain.push(edges.len() as u32)?;
-        follow(&mut chain, edges, kept, search, edge.to, edge.from, by, n)?;
+        follow(&mut chain, edges, kept, search, question, n)?;
         return Ok(Some(chain));
     }
     raise(kept, &search.distances);
@@ -151,29 +163,7 @@ pub(crate) fn judge(
     }
 }
 
-/// Puts an assumption at the end.
-fn put_last(
-    assumptions: &mut Vec<Assumption>,
-    ends: &mut Ends,
-    edge: Assumption,
-    n: u32,
-) -> Result<(), NoMemory>
-    requires listed { IsListed n assumptions.old.items ends.old }
-    requires to { edge.to < n }
-    requires room { length assumptions.old.items < 65536 }
-    ensures more { OnOk result (assumptions.new.items ≡ assumptions.old.items ++ edge ∷ []) }
-    ensures unchanged { OnErr result (assumptions.new.items ≡ assumptions.old.items) }
-    ensures listed { IsListed n assumptions.new.items ends.new }
-{
-    ends.push(assumptions, edge, n)?;
-    if assumptions.push(edge).is_err() {
-        ends.pop(assumptions, edge, n);
-        return Err(NoMemory);
-    }
-    Ok(())
-}
-
-/// Puts an assumption at the end, unless it is a contradiction.
+/// Puts an assumption at the end, unless it is a contradiction. One that the others imply is not listed.
 pub(crate) fn keep(
     assumptions: &mut Vec<Assumption>,
     ends: &mut Ends,
@@ -184,14 +174,19 @@ pub(crate) fn keep(
     requires listed { IsListed n assumptions.old.items ends.old }
     requires to { edge.to < n }
     requires room { length assumptions.old.items < 65536 }
+    requires verdict { IsVerdict assumptions.old.items edge.from edge.to edge.bound added.now }
     ensures grown { OnOk result (assumptions.new.items ≡ grown assumptions.old.items edge.from edge.to edge.bound added.now) }
     ensures unchanged { OnErr result (assumptions.new.items ≡ assumptions.old.items) }
     ensures listed { IsListed n assumptions.new.items ends.new }
 {
     match added {
-        Added::Fresh => put_last(assumptions, ends, edge, n)?,
-        Added::Held => put_last(assumptions, ends, edge, n)?,
-        Added::Contradiction(_) => {}
+        Added::Fresh => ends.push(assumptions, edge, n)?,
+        Added::Held => ends.push_held(assumptions, edge, n)?,
+        Added::Contradiction(_) => return Ok(()),
+    }
+    if assumptions.push(edge).is_err() {
+        ends.pop(assumptions, edge, n);
+        return Err(NoMemory);
     }
     Ok(())
 }

@@ -1,4 +1,5 @@
 ghost use Rattle.std.specs.Prelude.{◌<◌, ◌++◌, ◌∷◌, [], length, IfOk, OnOk, OnErr};
+ghost use Rattle.diff_bounds.specs.Bounds.{Implies};
 ghost use Rattle.diff_bounds.specs.Search.{IsListed};
 
 use crate::ends::Ends;
@@ -39,7 +40,27 @@ impl Ends {
         Ok(())
     }
 
-    /// Lists the last assumption no more.
+    /// Puts one assumption more after the others, which imply it: it is not listed.
+    pub(crate) fn push_held(
+        &mut self,
+        edges: &[Assumption],
+        edge: Assumption,
+        n: u32,
+    ) -> Result<(), NoMemory>
+        requires listed { IsListed n edges.now self.old }
+        requires to { edge.to < n }
+        requires held { Implies edges.now edge.from edge.to edge.bound }
+        ensures listed { OnOk result (IsListed n (edges.now ++ edge ∷ []) self.new) }
+        ensures unchanged { OnErr result (IsListed n edges.now self.new) }
+    {
+        let _ = edges;
+        let _ = n;
+        let listed = self.lasts.as_slice()[edge.to as usize];
+        self.earlier.push(listed)?;
+        Ok(())
+    }
+
+    /// Takes the last assumption away. It is listed no more.
     pub(crate) fn pop(&mut self, edges: &[Assumption], edge: Assumption, n: u32)
         requires listed { IsListed n (edges.now ++ edge ∷ []) self.old }
         requires to { edge.to < n }

@@ -1,9 +1,9 @@
 ghost use Rattle.std.specs.Prelude.{◌≡◌, ◌≤◌, ◌<◌, ◌+◌, ◌⊎◌, ◌≤ℤ◌, ◌-ℤ◌, ◌+ℤ◌, pos, ℕ, length, get_or, IfSome, IfNone, IfOk, List};
 ghost use Rattle.refutation.specs.Path.{Meets, at};
-ghost use Rattle.diff_bounds.specs.Search.{raised, of, AreMet, IsFound, IsRunning, IsRelaxed, IsSized, IsBounds, IsListed, IsOpen, IsOpened, IsSearched};
+ghost use Rattle.diff_bounds.specs.Search.{raised, of, AreMet, IsEnded, IsRunning, IsRelaxed, IsSized, IsBounds, IsListed, IsOpen, IsOpened, IsSearched};
 
 use crate::ends::Ends;
-use crate::search::Search;
+use crate::search::{Question, Search};
 use refutation::Assumption;
 use rl_time::NoMemory;
 use std::alloc::Global;
@@ -41,6 +41,35 @@ fn nearest(
         }
     }
     found
+}
+
+/// The place of the input to be settled next, or `None` where what was asked for is found.
+fn next(
+    reached: &[u32],
+    count: u32,
+    distances: &[u64],
+    turns: &[u32],
+    n: u32,
+    question: Question,
+) -> Option<u32>
+    requires distances { length distances.now ≡ n }
+    requires turns { length turns.now ≡ n }
+    requires reached { length reached.now ≡ n }
+    requires asked { question.asked < n }
+    requires is_open { IsOpen n distances.now (of turns.now) question.limit reached.now count }
+    ensures there { IfSome result (λ place. place < count) }
+    ensures unset { IfSome result (λ place. n ≤ get_or turns.now (get_or reached.now place 0) 0) }
+    ensures below { IfSome result (λ place. get_or distances.now (get_or reached.now place 0) 0 < question.limit) }
+    ensures nearest { IfSome result (λ place. (l : ℕ) → l < n → (get_or turns.now l 0 < n) ⊎ (get_or distances.now (get_or reached.now place 0) 0 ≤ get_or distances.now l 0)) }
+    ensures ended { IfNone result (IsEnded n (of distances.now) (of turns.now) question.limit question.asked question.enough) }
+{
+    if distances[question.asked as usize] < question.enough {
+        return None;
+    }
+    if turns[question.asked as usize] < n {
+        return None;
+    }
+    nearest(reached, count, distances, turns, n, question.limit)
 }
 
 /// Writes a number at a place.
@@ -211,13 +240,12 @@ fn fill_turns(turns: &mut [u32], n: u32)
     }
 }
 
-/// Settles the inputs one after another, the nearest first, until none below the limit is left.
-fn settle_all(
+/// Settles the inputs one after another, the nearest first, until what was asked for is found.
+fn settle(
     edges: &[Assumption],
     ends: &Ends,
     kept: &[u64],
-    target: u32,
-    limit: u64,
+    question: Question,
     n: u32,
     distances: &mut [u64],
     vias: &mut [u32],
@@ -230,18 +258,19 @@ fn settle_all(
     requires reached { length reached.now ≡ n }
     requires bounds { IsBounds n edges.now kept.now }
     requires listed { IsListed n edges.now ends.now }
-    requires target { target < n }
-    requires limit { limit ≤ 4000000000 }
-    ensures found { IsFound n edges.now (of kept.now) (of distances.new) target limit }
-    ensures settled { (l : ℕ) → l < n → (get_or turns.new l 0 < n) ⊎ (limit ≤ get_or distances.new l 0) }
-    ensures running { (turn : ℕ) × ((k : ℕ) × IsRunning n edges.now (of kept.now) (of distances.new) (of vias.new) (of turns.new) turn target limit k 0) }
+    requires target { question.target < n }
+    requires asked { question.asked < n }
+    requires limit { question.limit ≤ 4000000000 }
+    ensures ended { IsEnded n (of distances.new) (of turns.new) question.limit question.asked question.enough }
+    ensures running { (turn : ℕ) × ((k : ℕ) × IsRunning n edges.now (of kept.now) (of distances.new) (of vias.new) (of turns.new) turn question.target question.limit k 0) }
 {
+    let limit = question.limit;
     fill_distances(distances, limit);
     fill_turns(turns, n);
-    put_distance(distances, target, 0);
-    let mut count = open_input(reached, 0, target, limit, 0, limit);
+    put_distance(distances, question.target, 0);
+    let mut count = open_input(reached, 0, question.target, limit, 0, limit);
     let mut turn: u32 = 0;
-    while let Some(place) = nearest(reached, count, distances, turns, n, limit) {
+    while let Some(place) = next(reached, count, distances, turns, n, question) {
         let k = reached[place as usize];
         let last = reached[(count - 1) as usize];
         put_number(reached, place, last);
@@ -283,29 +312,28 @@ impl Search {
         self.distances.as_slice()[k as usize]
     }
 
-    /// Finds how far each input's kept number is to be raised for the sake of the target's, up to the limit.
+    /// Finds how far the kept numbers are to be raised for the sake of the target's.
     pub(crate) fn run(
         &mut self,
         edges: &[Assumption],
         ends: &Ends,
         kept: &[u64],
-        target: u32,
-        limit: u64,
+        question: Question,
         n: u32,
     )
         requires sized { IsSized n self.old }
         requires bounds { IsBounds n edges.now kept.now }
         requires listed { IsListed n edges.now ends.now }
-        requires target { target < n }
-        requires limit { limit ≤ 4000000000 }
-        ensures { IsSearched n edges.now kept.now self.new target limit }
+        requires target { question.target < n }
+        requires asked { question.asked < n }
+        requires limit { question.limit ≤ 4000000000 }
+        ensures { IsSearched n edges.now kept.now self.new question.target question.limit question.asked question.enough }
     {
-        settle_all(
+        settle(
             edges,
             ends,
             kept,
-            target,
-            limit,
+            question,
             n,
             &mut self.distances,
             &mut self.vias,

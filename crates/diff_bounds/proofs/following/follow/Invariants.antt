@@ -7,8 +7,8 @@ abbrev pub invariant-loop-at : goal.invariant-loop-at
 invariant-loop-at l =
     record {
       inside : l.at < l.n;
-      low : get_or l.search.distances.items l.at 0 < l.limit;
-      way : Way l.edges (of l.kept) (of l.search.distances.items) (of l.search.turns.items) l.fn.chain l.chain l.i l.at;
+      low : get_or l.search.distances.items l.at 0 < l.question.limit;
+      way : Way l.edges (of l.kept) (of l.search.distances.items) (of l.search.turns.items) l.fn.chain l.chain l.question.asked l.at;
     }
 
 abbrev pub decreases-loop-at : goal.decreases-loop-at

@@ -2,9 +2,8 @@ use Rattle.std.proofs.Common.{◌≡◌, ◌+◌, ◌-◌, refl, get_or, inl, in
 use Rattle.diff_bounds.specs.Search.{of, IsRunning, IsListed, IsOpen, IsOpened}
 use Rattle.diff_bounds.proofs.Running.{begun, settle, unset_all, unset_less, unset_some}
 use Rattle.diff_bounds.proofs.Opening.{none_open, opened, closed}
-use Rattle.diff_bounds.proofs.Ending.{found}
 use Rattle.diff_bounds.proofs.Kept.{are_met}
-use Rattle.diff_bounds.proofs.searching.settle_all.Goals as goal
+use Rattle.diff_bounds.proofs.searching.settle.Goals as goal
 
 pub loop-place-init : goal.loop-place-init
 loop-place-init c =
@@ -19,15 +18,15 @@ loop-place-init c =
           let ds0 = c.fill_distances.new.distances in
           let long : length ds0 ≡ n = c.fill_distances.auto.distances ∙ c.requires.distances in
           let e = c.requires.distances in
-          let far : get_or ds0 c.args.target 0 ≡ c.args.limit = let h = c.requires.target in c.fill_distances.ensures c.args.target (omega (arith, h, e)) in
-          opened n ds0 ds (of ts) c.args.limit c.args.reached.now c.open_input-count.new.reached 0 c.open_input-count.result c.args.target
-          (none_open n ds0 (of ts) c.args.limit c.args.reached.now long (λ l h. c.fill_distances.ensures l (omega (arith, h, e))))
+          let far : get_or ds0 c.args.question.target 0 ≡ c.args.question.limit = let h = c.requires.target in c.fill_distances.ensures c.args.question.target (omega (arith, h, e)) in
+          opened n ds0 ds (of ts) c.args.question.limit c.args.reached.now c.open_input-count.new.reached 0 c.open_input-count.result c.args.question.target
+          (none_open n ds0 (of ts) c.args.question.limit c.args.reached.now long (λ l h. c.fill_distances.ensures l (omega (arith, h, e))))
           c.requires.target long c.put_distance.auto.distances c.put_distance.ensures.others (let z = c.put_distance.ensures.here in omega (arith, z))
-          (subst (λ (before : ℕ). IsOpened before (of ds c.args.target) c.args.limit c.args.target 0 c.args.reached.now c.open_input-count.new.reached c.open_input-count.result) (sym far)
-          (subst (λ (after : ℕ). IsOpened c.args.limit after c.args.limit c.args.target 0 c.args.reached.now c.open_input-count.new.reached c.open_input-count.result) (sym c.put_distance.ensures.here) c.open_input-count.ensures));
+          (subst (λ (before : ℕ). IsOpened before (of ds c.args.question.target) c.args.question.limit c.args.question.target 0 c.args.reached.now c.open_input-count.new.reached c.open_input-count.result) (sym far)
+          (subst (λ (after : ℕ). IsOpened c.args.question.limit after c.args.question.limit c.args.question.target 0 c.args.reached.now c.open_input-count.new.reached c.open_input-count.result) (sym c.put_distance.ensures.here) c.open_input-count.ensures));
       running = (
-        c.args.target,
-        begun n c.args.edges.now (of c.args.kept.now) (of ds) (of c.args.vias.now) (of ts) c.args.target c.args.limit (are_met c.args.n c.args.edges.now c.args.kept.now c.requires.bounds) c.put_distance.ensures.here
+        c.args.question.target,
+        begun n c.args.edges.now (of c.args.kept.now) (of ds) (of c.args.vias.now) (of ts) c.args.question.target c.args.question.limit (are_met c.args.n c.args.edges.now c.args.kept.now c.requires.bounds) c.put_distance.ensures.here
             (λ l h. let e = c.requires.turns in c.fill_turns.ensures l (omega (arith, h, e)))
             (λ l h. elim (c.put_distance.ensures.others l) [
               | inl q ↦ inl q
@@ -55,8 +54,8 @@ relax_into-count-requires-clause-is_open c =
     let some = unset_some n c.loop-place.turns (get_or c.loop-place.reached c.in-Some.place 0) (omega (arith, there, long)) c.in-Some.ensures.unset in
     let few = c.loop-place.invariant.few in
     let is = c.put_number-in-Some.ensures.here in
-    subst (λ (n : ℕ). IsOpen n c.loop-place.distances (of c.put_number-in-Some.new.numbers) c.args.limit c.put_number.new.numbers (c.loop-place.count - 1)) (sym c.requires.bounds.solution.long)
-    (closed n c.loop-place.distances (of c.loop-place.turns) (of c.put_number-in-Some.new.numbers) c.args.limit c.loop-place.reached c.put_number.new.numbers c.loop-place.count c.in-Some.place
+    subst (λ (n : ℕ). IsOpen n c.loop-place.distances (of c.put_number-in-Some.new.numbers) c.args.question.limit c.put_number.new.numbers (c.loop-place.count - 1)) (sym c.requires.bounds.solution.long)
+    (closed n c.loop-place.distances (of c.loop-place.turns) (of c.put_number-in-Some.new.numbers) c.args.question.limit c.loop-place.reached c.put_number.new.numbers c.loop-place.count c.in-Some.place
     (get_or c.loop-place.reached c.in-Some.place 0) c.loop-place.invariant.is_open c.in-Some.ensures.there refl (omega (arith, some, few, is)) c.put_number-in-Some.ensures.others
     c.put_number.ensures.here c.put_number.ensures.others)
 
@@ -97,24 +96,18 @@ loop-place-preserved c =
     let is = c.put_number-in-Some.ensures.here in
     let less = unset_less n c.loop-place.turns c.put_number-in-Some.new.numbers k c.put_number-in-Some.auto.numbers (omega (arith, there, long)) c.in-Some.ensures.unset (omega (arith, is, some, few)) c.put_number-in-Some.ensures.others in
     let run = c.loop-place.invariant.running in
-    let set : IsRunning n edges y (of c.loop-place.distances) (of c.loop-place.vias) (of c.put_number-in-Some.new.numbers) (c.loop-place.turn + 1) c.args.target c.args.limit k (length edges) =
-    settle n edges y (of c.loop-place.distances) (of c.loop-place.vias) (of c.loop-place.turns) (of c.put_number-in-Some.new.numbers) c.loop-place.turn c.args.target c.args.limit run.0 k (are_met c.args.n c.args.edges.now c.args.kept.now c.requires.bounds) run.1
+    let set : IsRunning n edges y (of c.loop-place.distances) (of c.loop-place.vias) (of c.put_number-in-Some.new.numbers) (c.loop-place.turn + 1) c.args.question.target c.args.question.limit k (length edges) =
+    settle n edges y (of c.loop-place.distances) (of c.loop-place.vias) (of c.loop-place.turns) (of c.put_number-in-Some.new.numbers) c.loop-place.turn c.args.question.target c.args.question.limit run.0 k (are_met c.args.n c.args.edges.now c.args.kept.now c.requires.bounds) run.1
     there c.in-Some.ensures.unset (omega (arith, some, few))
     (λ l h u. elim (c.in-Some.ensures.nearest l h) [ inl lt ↦ absurd (omega (arith, lt, u)) | inr le ↦ le ])
     is c.put_number-in-Some.ensures.others in
     record {
       few = omega (arith, few, less);
-      is_open = subst (λ (n : ℕ). IsOpen n c.relax_into-count.new.distances (of c.put_number-in-Some.new.numbers) c.args.limit c.relax_into-count.new.reached c.relax_into-count.result) c.requires.bounds.solution.long c.relax_into-count.ensures.is_open;
+      is_open = subst (λ (n : ℕ). IsOpen n c.relax_into-count.new.distances (of c.put_number-in-Some.new.numbers) c.args.question.limit c.relax_into-count.new.reached c.relax_into-count.result) c.requires.bounds.solution.long c.relax_into-count.ensures.is_open;
       running = (
         k,
-        subst (λ (n : ℕ). IsRunning n edges y (of c.relax_into-count.new.distances) (of c.relax_into-count.new.vias) (of c.put_number-in-Some.new.numbers) (c.loop-place.turn + 1) c.args.target c.args.limit k 0) c.requires.bounds.solution.long
-            (c.relax_into-count.ensures.running (c.loop-place.turn + 1) c.args.target c.args.limit
-            (subst (λ (n : ℕ). IsRunning n edges y (of c.loop-place.distances) (of c.loop-place.vias) (of c.put_number-in-Some.new.numbers) (c.loop-place.turn + 1) c.args.target c.args.limit k (length edges)) (sym c.requires.bounds.solution.long) set)),
+        subst (λ (n : ℕ). IsRunning n edges y (of c.relax_into-count.new.distances) (of c.relax_into-count.new.vias) (of c.put_number-in-Some.new.numbers) (c.loop-place.turn + 1) c.args.question.target c.args.question.limit k 0) c.requires.bounds.solution.long
+            (c.relax_into-count.ensures.running (c.loop-place.turn + 1) c.args.question.target c.args.question.limit
+            (subst (λ (n : ℕ). IsRunning n edges y (of c.loop-place.distances) (of c.loop-place.vias) (of c.put_number-in-Some.new.numbers) (c.loop-place.turn + 1) c.args.question.target c.args.question.limit k (length edges)) (sym c.requires.bounds.solution.long) set)),
       );
     }
-
-pub returns-clause-found : goal.returns-clause-found
-returns-clause-found c =
-    let run = c.loop-place.invariant.running in
-    found c.args.n c.args.edges.now (of c.args.kept.now) (of c.loop-place.distances) (of c.loop-place.vias) (of c.loop-place.turns) c.loop-place.turn c.args.target c.args.limit run.0 (are_met c.args.n c.args.edges.now c.args.kept.now c.requires.bounds) run.1
-    c.in_default.ensures.none
