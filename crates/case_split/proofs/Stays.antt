@@ -249,7 +249,7 @@ module _ (P : ℕ → Type 0) where
     inc_names form.Undecided c p = tt
     inc_names (form.Plus i b) c p = p
 
-    -- a term's form names one of the inputs that stand in the term
+    -- a term's form names one of the inputs of the term
     pub term_names : (t : Tree) → ((i : ℕ) → IsIn (Input i) t → P i) → Names P (term_form known t)
     term_names Never h = tt
     term_names (Input i) h = h i refl
@@ -258,7 +258,7 @@ module _ (P : ℕ → Type 0) where
     term_names (Lt a b) h = lt_names (term_form known a) (term_form known b) (term_names a (λ i u. h i (inr (inl u))))
     term_names (Inc a c) h = inc_names (term_form known a) c (term_names a (λ i u. h i (inr u)))
 
--- the input of a term's form stands in the term
+-- the input of a term's form is in the term
 pub forms_name_parts : (known : Known) (t : Tree) (i c : ℕ) → term_form known t ≡ form.Plus i c → IsIn (Input i) t
 forms_name_parts known t i c e = subst (Names (λ i. IsIn (Input i) t)) e (term_names (λ i. IsIn (Input i) t) known t (λ i u. u))
 

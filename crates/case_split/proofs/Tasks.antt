@@ -97,7 +97,7 @@ all_from P (t ∷ ts) s a h = elim (or_either (same_tree s t) (is_among s ts) h)
   | inr e ↦ all_from P ts s a.1 e
 ]
 
--- what stands in one of the two terms
+-- what is in one of the two terms
 EitherIn : Pair → Tree → Type 0
 EitherIn pair s = IsIn s (tree_in (network_trees pair.first) pair.place) ⊎ IsIn s (tree_in (network_trees pair.second) pair.place)
 

@@ -26,7 +26,7 @@ use Rattle.tree_check.proofs.Forms.{number_at}
 use Rattle.case_split.specs.TermForms.{term_form}
 use Rattle.case_split.specs.Live.{pair_terms}
 use Rattle.case_split.specs.Leaves.{IsValidItem, AreApart}
-use Rattle.case_split.specs.Verdicts.{IsDifference, IsSmallNumber, IsEqualTree, IsUndecidedTree, IsRight, IsEqual, IsDecision}
+use Rattle.case_split.specs.Verdicts.{IsDifference, IsTermDifference, IsSmallNumber, IsEqualTree, IsUndecidedTree, IsRight, IsEqual, IsDecision}
 use Rattle.case_split.specs.declared.ending.Decision.{Decision}
 use Rattle.case_split.specs.declared.ending.Decision.TheVariants as decision
 use Rattle.case_split.specs.declared.verdict.Verdict.{Verdict}
@@ -95,6 +95,19 @@ difference pair premises ns times e names apart = subst (IsDifference premises p
   meet = premises_met ns premises (subst (λ (n : ℕ). NameInputs n premises) (sym apart.long) names) apart.meet;
   differ = λ same. apart.differ (output_value pair.first pair.place (numbers ns) ∙ (same ∙ sym (output_value pair.second pair.place (numbers ns))));
 })
+
+-- times at which the terms of a part differ
+pub drawn : (pair : Pair) (premises : List Assume) (n : ℕ) (a b : Tree) (times : List Time) → n ≡ length pair.first.inputs → a ∷ b ∷ [] ≡ first_term pair ∷ second_term pair ∷ [] → IsTermDifference n premises a b times →
+    IsDifference premises pair times
+drawn pair premises n a b times many terms d = record {
+  long = d.long ∙ many;
+  small = d.small;
+  meet = d.meet;
+  differ = λ same. d.differ (
+      ap (λ ts. value times (tree_in ts 0)) terms ∙ output_value pair.first pair.place times
+      ∙ (same ∙ sym (ap (λ ts. value times (tree_in ts 1)) terms ∙ output_value pair.second pair.place times))
+      );
+}
 
 pub equal_right : (premises : List Assume) (pair : Pair) (budget : ℕ) (d : Decision) (items : List Item) → d ≡ decision.Equal items →
     IsDecision (length pair.first.inputs) premises (first_term pair) (second_term pair) (join_count (pair_terms pair)) budget d → IsEqualTree premises pair budget items

@@ -9,7 +9,7 @@ use Rattle.spike_eval.specs.Outputs.{output_function}
 use Rattle.refutation.specs.declared.item.Item.{Item}
 use Rattle.refutation.specs.Limits.{KeepsLimits}
 use Rattle.refutation.specs.Cases.{EachOnPath, OneOnPath}
-use Rattle.term_store.specs.Tree.{Tree}
+use Rattle.term_store.specs.Tree.{Tree, value}
 use Rattle.term_store.specs.Subterms.{join_count}
 use Rattle.tree_check.specs.Valid.{Pair, IsValid, root}
 use Rattle.case_split.specs.Live.{IsLive, IsDueItem, IsUnsettledItem, opened, pair_terms}
@@ -30,6 +30,13 @@ pub record IsDifference (premises : List Assume) (pair : Pair) (times : List Tim
   pub small : All IsSmallNumber times
   pub meet : MeetsPremises times premises
   pub differ : output_function pair.first pair.place times ≡ output_function pair.second pair.place times → ⊥
+
+-- the same of two terms over n inputs
+pub record IsTermDifference (n : ℕ) (premises : List Assume) (a b : Tree) (times : List Time) : Type 0 where
+  pub long : length times ≡ n
+  pub small : All IsSmallNumber times
+  pub meet : MeetsPremises times premises
+  pub differ : value times a ≡ value times b → ⊥
 
 -- a tree that shows the two outputs to be equal, with at most so many items; no valid tree has fewer
 pub record IsEqualTree (premises : List Assume) (pair : Pair) (budget : ℕ) (items : List Item) : Type 0 where

@@ -51,17 +51,14 @@ pub fn decide(
     ensures store { store.new.nodes ≡ store.old.nodes }
 {
     valid_trees_decide();
-    if let Some(times) = early_difference(alloc, first, second, out, premises)? {
-        return Ok(Verdict::Different(times));
-    }
     let mark = store.mark();
-    let verdict = decide_by_cases(alloc, first, second, out, premises, budget, store);
+    let verdict = decide_planted(alloc, first, second, out, premises, budget, store);
     store.release(mark);
     verdict
 }
 
-/// The same only by cases. What was planted stays in the store.
-fn decide_by_cases(
+/// The same, but what was planted stays in the store.
+fn decide_planted(
     alloc: Global,
     first: &Network,
     second: &Network,
@@ -87,6 +84,9 @@ fn decide_by_cases(
     let (part, one, other) = planted(alloc, first, second, out, store)?;
     part.rules();
     let inputs = first.inputs().len() as u32;
+    if let Some(times) = early_difference(alloc, &part, one, other, inputs, premises)? {
+        return Ok(Verdict::Different(times));
+    }
     let decision = settle(alloc, &part, one, other, inputs, premises, budget)?;
     verdict(alloc, decision)
 }

@@ -2,17 +2,18 @@
 //! needed.
 ghost use Rattle.std.specs.Prelude.{◌≡◌, ◌≤◌, ◌<◌, true, length, IfOk, IfSome};
 ghost use Rattle.std.specs.List.{All};
-ghost use Rattle.spike_eval.specs.Outputs.{output_function};
 ghost use Rattle.spike_eval.specs.Premises.{NameInputs, MeetsPremise, MeetsPremises};
-ghost use Rattle.tree_check.specs.Valid.{outputs};
-ghost use Rattle.case_split.specs.Verdicts.{IsSmallNumber, IsDifference};
+ghost use Rattle.term_store.specs.Tree.{value};
+ghost use Rattle.term_store.specs.Trees.{tree};
+ghost use Rattle.case_split.specs.Verdicts.{IsSmallNumber, IsTermDifference};
 
-use net_model::{Assume, Network};
+use crate::tying::tie_some;
+use net_model::Assume;
 use rand_core::utils::NextWord;
 use rand_pcg::Pcg32;
 use rl_time::{NoMemory, Time};
-use spike_eval::eval;
 use std::alloc::Global;
+use term_store::{Evaluator, Store, Term};
 
 /// How many lists of times are drawn below each limit.
 const LISTS: u32 = 16;
@@ -20,26 +21,76 @@ const LISTS: u32 = 16;
 /// The limits are 1, 2, 4, 8 and so on up to this one: first all times are equal, then at most one apart.
 const LAST_LIMIT: u32 = 1_048_576;
 
-/// A time for each input, which meets the premises, and at which output `out` of two networks differs: the first of 336 lists that are
-/// drawn, always the same ones, or `None` where none of them does.
+/// How many places are valued in lists with ties, at most: large terms get fewer lists.
+const TIED_PLACES: u32 = 4_194_304;
+
+/// The least and the most lists with ties.
+const LEAST_TIED: u32 = 64;
+
+const MOST_TIED: u32 = 8192;
+
+/// Two terms that are valued at each list.
+#[derive(Drop)]
+struct TwoTerms {
+    evaluator: Evaluator,
+    one: Term,
+    other: Term,
+}
+
+/// A time for each of so many inputs, which meets the premises, and at which two terms of a store differ: the first of 336 lists
+/// that are drawn, and of 64 to 8,192 in which operands tie, always the same ones, or `None` where none of them does. None are
+/// drawn where the two places are one.
 pub(crate) fn early_difference(
     alloc: Global,
-    first: &Network,
-    second: &Network,
-    out: u32,
+    store: &Store,
+    one: Term,
+    other: Term,
+    inputs: u32,
     premises: &[Assume],
 ) -> Result<Option<Vec<Time>>, NoMemory>
-    requires same_inputs { length first.now.inputs ≡ length second.now.inputs }
-    requires first_has { out < length first.now.outputs }
-    requires second_has { out < length second.now.outputs }
-    requires named { NameInputs (length first.now.inputs) premises.now }
+    requires one { one.0 < length store.now.nodes }
+    requires other { other.0 < length store.now.nodes }
+    requires named { NameInputs inputs premises.now }
     requires small_premises { All (λ p. p.by ≤ 1000000) premises.now }
-    ensures { IfOk result (λ found. IfSome found (λ times. IsDifference premises.now (outputs first.now second.now out) times.items)) }
+    ensures { IfOk result (λ found. IfSome found (λ times.
+        IsTermDifference inputs premises.now (tree store.now.nodes one.0) (tree store.now.nodes other.0) times.items)) }
 {
+    if one == other {
+        return Ok(None);
+    }
+    let evaluator = Evaluator::new(alloc, store)?;
+    let mut pair = TwoTerms {
+        evaluator,
+        one,
+        other,
+    };
     let mut draws = Pcg32::new(42, 54);
+    let found = drawn_difference(alloc, &mut pair, inputs, premises, &mut draws)?;
+    if found.is_some() {
+        return Ok(found);
+    }
+    tied_difference(alloc, &mut pair, store, inputs, premises, &mut draws)
+}
+
+/// The same among the lists that are drawn without regard to the terms.
+fn drawn_difference(
+    alloc: Global,
+    pair: &mut TwoTerms,
+    inputs: u32,
+    premises: &[Assume],
+    draws: &mut Pcg32,
+) -> Result<Option<Vec<Time>>, NoMemory>
+    requires one { pair.old.one.0 < length pair.old.evaluator }
+    requires other { pair.old.other.0 < length pair.old.evaluator }
+    requires named { NameInputs inputs premises.now }
+    requires small_premises { All (λ p. p.by ≤ 1000000) premises.now }
+    ensures found { IfOk result (λ found. IfSome found (λ times.
+        IsTermDifference inputs premises.now (tree pair.old.evaluator pair.old.one.0) (tree pair.old.evaluator pair.old.other.0) times.items)) }
+    ensures pair { pair.new ≡ pair.old }
+{
     let mut limit = 1;
     while limit <= LAST_LIMIT {
-        let found = difference_below(alloc, first, second, out, premises, &mut draws, limit)?;
+        let found = difference_below(alloc, pair, inputs, premises, draws, limit)?;
         if found.is_some() {
             return Ok(found);
         }
@@ -48,28 +99,62 @@ pub(crate) fn early_difference(
     Ok(None)
 }
 
+/// The same among lists in which operands of the terms tie. The store holds the terms.
+fn tied_difference(
+    alloc: Global,
+    pair: &mut TwoTerms,
+    store: &Store,
+    inputs: u32,
+    premises: &[Assume],
+    draws: &mut Pcg32,
+) -> Result<Option<Vec<Time>>, NoMemory>
+    requires some { 0 < length store.now.nodes }
+    requires one { pair.old.one.0 < length pair.old.evaluator }
+    requires other { pair.old.other.0 < length pair.old.evaluator }
+    requires named { NameInputs inputs premises.now }
+    requires small_premises { All (λ p. p.by ≤ 1000000) premises.now }
+    ensures { IfOk result (λ found. IfSome found (λ times.
+        IsTermDifference inputs premises.now (tree pair.old.evaluator pair.old.one.0) (tree pair.old.evaluator pair.old.other.0) times.items)) }
+{
+    let lists = (TIED_PLACES / store.len()).max(LEAST_TIED).min(MOST_TIED);
+    let mut limit = 1;
+    for _list in 0..lists {
+        let mut times = draw_times(alloc, draws, inputs as usize, limit)?;
+        tie_some(draws, store, &mut times);
+        if meet(&times, premises) && differ(pair, &times) {
+            return Ok(Some(times));
+        }
+        limit = if limit <= LAST_LIMIT / 2 {
+            limit * 2
+        } else {
+            1
+        };
+    }
+    Ok(None)
+}
+
 /// The same among lists of times below a limit.
 fn difference_below(
     alloc: Global,
-    first: &Network,
-    second: &Network,
-    out: u32,
+    pair: &mut TwoTerms,
+    inputs: u32,
     premises: &[Assume],
     draws: &mut Pcg32,
     limit: u32,
 ) -> Result<Option<Vec<Time>>, NoMemory>
-    requires same_inputs { length first.now.inputs ≡ length second.now.inputs }
-    requires first_has { out < length first.now.outputs }
-    requires second_has { out < length second.now.outputs }
-    requires named { NameInputs (length first.now.inputs) premises.now }
+    requires one { pair.old.one.0 < length pair.old.evaluator }
+    requires other { pair.old.other.0 < length pair.old.evaluator }
+    requires named { NameInputs inputs premises.now }
     requires small_premises { All (λ p. p.by ≤ 1000000) premises.now }
     requires some { 1 ≤ limit }
     requires small { limit ≤ 1048576 }
-    ensures { IfOk result (λ found. IfSome found (λ times. IsDifference premises.now (outputs first.now second.now out) times.items)) }
+    ensures found { IfOk result (λ found. IfSome found (λ times.
+        IsTermDifference inputs premises.now (tree pair.old.evaluator pair.old.one.0) (tree pair.old.evaluator pair.old.other.0) times.items)) }
+    ensures pair { pair.new ≡ pair.old }
 {
     for _list in 0..LISTS {
-        let times = draw_times(alloc, draws, first.inputs().len(), limit)?;
-        if meet(&times, premises) && differ(alloc, first, second, out, &times)? {
+        let times = draw_times(alloc, draws, inputs as usize, limit)?;
+        if meet(&times, premises) && differ(pair, &times) {
             return Ok(Some(times));
         }
     }
@@ -122,22 +207,15 @@ fn meets(times: &[Time], premise: Assume) -> bool
     }
 }
 
-/// Whether output `out` of the two networks differs at the times.
-fn differ(
-    alloc: Global,
-    first: &Network,
-    second: &Network,
-    out: u32,
-    times: &[Time],
-) -> Result<bool, NoMemory>
-    requires first_inputs { length times.now ≡ length first.now.inputs }
-    requires second_inputs { length times.now ≡ length second.now.inputs }
-    requires first_has { out < length first.now.outputs }
-    requires second_has { out < length second.now.outputs }
+/// Whether the two terms differ at the times.
+fn differ(pair: &mut TwoTerms, times: &[Time]) -> bool
+    requires one { pair.old.one.0 < length pair.old.evaluator }
+    requires other { pair.old.other.0 < length pair.old.evaluator }
     requires small { All IsSmallNumber times.now }
-    ensures { IfOk result (λ differ. differ ≡ true → output_function first.now out times.now ≡ output_function second.now out times.now → ⊥) }
+    ensures differ { result ≡ true → value times.now (tree pair.old.evaluator pair.old.one.0) ≡ value times.now (tree pair.old.evaluator pair.old.other.0) → ⊥ }
+    ensures pair { pair.new ≡ pair.old }
 {
-    let one = eval(alloc, first, times)?;
-    let other = eval(alloc, second, times)?;
-    Ok(one[out as usize] != other[out as usize])
+    let one = pair.evaluator.time(pair.one, times);
+    let other = pair.evaluator.time(pair.other, times);
+    one != other
 }

@@ -20,6 +20,7 @@ mod leaf;
 mod question;
 mod stages;
 mod steps;
+mod tying;
 mod verdict;
 mod walk;
 
