@@ -344,7 +344,7 @@ output pc = lt(c, ab)
 ";
 
 #[test]
-fn tells_values(rt: HostRuntime) -> Result<(), Fail> {
+fn writes_values(rt: HostRuntime) -> Result<(), Fail> {
     let alloc = rt.alloc();
     let late = b"racenet 1\ninput a\noutput y = inc(a, 1000000)\n";
     let words = &["eval", "f", "1000000000000"];
@@ -363,7 +363,7 @@ fn tells_values(rt: HostRuntime) -> Result<(), Fail> {
 }
 
 #[test]
-fn tells_values_of_tables(rt: HostRuntime) -> Result<(), Fail> {
+fn writes_values_of_tables(rt: HostRuntime) -> Result<(), Fail> {
     let alloc = rt.alloc();
     let cases = [
         (["eval", "f", "7", "10"], b"y 12\n".as_slice()),

@@ -51,7 +51,7 @@ fn levels_of(alloc: Global, values: &[u8]) -> Result<Vec<u8>, Fail> {
     Ok(levels)
 }
 
-// The largest network and the times of its inputs, by the three commands alone.
+// The largest network and the times of its inputs, by the three commands only.
 #[test]
 fn the_largest_network_behaves_as_it_is_valued(rt: HostRuntime) -> Result<(), Fail> {
     let alloc = rt.alloc();

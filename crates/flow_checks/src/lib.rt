@@ -14,6 +14,8 @@ mod modules;
 #[cfg(test)]
 mod orders;
 #[cfg(test)]
+mod readme;
+#[cfg(test)]
 mod simplified;
 #[cfg(test)]
 mod sizes;
