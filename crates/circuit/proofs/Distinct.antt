@@ -1,4 +1,4 @@
--- Lists of names in which no name stands twice.
+-- Lists of names in which no name occurs twice.
 use Rattle.std.proofs.Common.{◌≡◌, ◌≢◌, ℕ, zero, suc, List, [], ◌∷◌, ◌++◌, map, get_or, refl, ap, ◌∙◌, sym, arith, true, false, All, IsTrue, codes, append_assoc, subst}
 use Rattle.std.specs.Prelude.{AllPairs}
 use Rattle.std.proofs.lemmas.List.{get_or-map, length-map, append_cancel_left}

@@ -7,7 +7,7 @@ use Rattle.circuit.specs.declared.bit.Target.{Target}
 use Rattle.circuit.specs.declared.bit.Target.TheVariants as target
 use Rattle.circuit.specs.Circuit.{Logic, Zero, One, Input, Wire, Reg, Not, And, Or, Assignment, Register, Circuit, circuit}
 
--- a number that tells the constructors apart, and two parts
+-- a number that distinguishes the constructors, and two parts
 abbrev pub node : ℕ → Gv → Gv → Gv
 node n a b = gcons (gnum n) (gcons a b)
 

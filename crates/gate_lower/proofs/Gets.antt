@@ -1,4 +1,4 @@
--- What stands at a place of two lists joined.
+-- What is at a place of two lists joined.
 use Rattle.std.proofs.Common.{◌≡◌, ℕ, zero, suc, ◌+◌, List, [], ◌∷◌, ◌++◌, length, ap, ◌∙◌, arith, Some}
 use Rattle.std.specs.Prelude.{slice_get}
 

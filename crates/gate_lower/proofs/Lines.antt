@@ -231,7 +231,7 @@ module _ (nodes : List Node) (marks : List Bool) (inputs : ℕ) (rules : IsNodes
   pub same_place : (p q : ℕ) → p < length nodes → q < length nodes → is_marked marks p ≡ true → is_marked marks q ≡ true → place_line nodes marks p ≡ place_line nodes marks q → p ≡ q
   same_place p q lp lq mp mq h = same_by p q (is_join_node (node_at nodes p)) (is_join_node (node_at nodes q)) lp lq mp mq refl refl h
 
-  -- ---- no gate stands twice, and no delay
+  -- ---- no gate occurs twice, and no delay
 
   same_operand : (p q : ℕ) (n m : Node) (a b : Term) → p < length nodes → q < length nodes → is_marked marks p ≡ true → is_marked marks q ≡ true → node_at nodes p ≡ n → node_at nodes q ≡ m →
       a.0 < p → b.0 < q → IsOperand a.0 n → IsOperand b.0 m → term_line nodes marks a ≡ term_line nodes marks b → a ≡ b

@@ -34,7 +34,7 @@ get_last : {A : Type 0} (xs : List A) (y : A) (d : A) → get_or (xs ++ y ∷ []
 get_last [] y d = refl
 get_last (x ∷ xs) y d = get_last xs y d
 
--- what stands at a place of a list over the first places
+-- what is at a place of a list over the first places
 pub at_listed : {A : Type 0} (f : ℕ → A) (n k : ℕ) (d : A) → k < n → get_or (map f (places n)) k d ≡ f k
 at_listed f zero k d lt = absurd (omega (arith, lt))
 at_listed f (suc n) k d lt = ap (λ xs. get_or xs k d) (map_next f n) ∙ elim (cases_lt k n) [
@@ -130,7 +130,7 @@ count_apart test m n s t e = elim (cases_lt m n) [
   ]
 ]
 
--- a place that passes stands in the list of those that do, after as many as there are before it
+-- a place that passes is in the list of those that do, after as many as there are before it
 pub get_kept : (test : ℕ → Bool) (n p : ℕ) → p < n → test p ≡ true → slice_get (filter test (places n)) (count test p) ≡ Some p
 get_kept test zero p lt t = absurd (omega (arith, lt))
 get_kept test (suc n) p lt t = ap (λ xs. slice_get xs (count test p)) (filter_next test n) ∙ elim (cases_lt p n) [
@@ -143,7 +143,7 @@ get_kept test (suc n) p lt t = ap (λ xs. slice_get xs (count test p)) (filter_n
       ∙ (get_right (filter test (places n)) (n ∷ []) 0 ∙ ap Some (sym e)))
 ]
 
--- what stands in the list of those that pass
+-- what is in the list of those that pass
 pub record IsKept (test : ℕ → Bool) (n k p : ℕ) : Type 0 where
   pub within : p < n
   pub passes : test p ≡ true
@@ -152,7 +152,7 @@ pub record IsKept (test : ℕ → Bool) (n k p : ℕ) : Type 0 where
 kept_more : (test : ℕ → Bool) (n k p : ℕ) → IsKept test n k p → IsKept test (suc n) k p
 kept_more test n k p h = record { within = omega (arith, h.within); passes = h.passes; number = h.number }
 
--- what stands in two lists joined stands in one of them
+-- what is in two lists joined is in one of them
 get_either : {A : Type 0} (xs ys : List A) (k : ℕ) (x : A) → slice_get (xs ++ ys) k ≡ Some x →
     (slice_get xs k ≡ Some x) ⊎ ((i : ℕ) × (k ≡ length xs + i) × (slice_get ys i ≡ Some x))
 get_either [] ys k x h = inr (k, omega arith, h)
@@ -178,7 +178,7 @@ is_kept test (suc n) k p h =
       | inr r ↦ kept_last test n k p r.0 (test n) refl r.1 r.2
     ]
 
--- what stands in a list of what a function gives
+-- what is in a list of what a function gives
 pub get_map : {A B : Type 0} (f : A → B) (xs : List A) (k : ℕ) (y : B) → slice_get (map f xs) k ≡ Some y → (x : A) × (slice_get xs k ≡ Some x) × (y ≡ f x)
 get_map f [] k y h = absurd (cc)
 get_map f (x ∷ xs) zero y h = (x, refl, cc)

@@ -93,7 +93,7 @@ module _ (g : Netlist) (ok : IsNetlist g) where
   gate_with AndGate x y = gate.And x y
   gate_with LatchGate x y = gate.Latch x y
 
-  -- the gate of a wire as it stands among the gates
+  -- the gate of a wire as it is among the gates
   record Found (w : ℕ) (kind : Kind) (p q : Logic) : Type 0 where
     left : Line
     right : Line

@@ -20,7 +20,7 @@ pub joined_more : (op : Tree → Tree → Tree) (t : Tree) (us : List Tree) (u :
 joined_more op t [] u = refl
 joined_more op t (v ∷ us) u = joined_more op (op t v) us u
 
--- the node of a join stands over its places
+-- the node of a join is over its places
 pub join_over : (op : Join) (m : ℕ) (a b : Term) → a.0 < m → b.0 < m → IsNodeOver m (join_node op a b)
 join_over j.Min m a b g h = (g, h)
 join_over j.Max m a b g h = (g, h)

@@ -39,7 +39,7 @@ none_planted ns s = record {
 }
 
 module _ (laws : PlantingLaws) where
-  -- a term that stands in the store
+  -- a term that is in the store
   pub held : (ns : List Node) (t : Tree) (at : Term) → IsNodes ns → at.0 < length ns → tree ns at.0 ≡ t → IsPlanted ns ns t at
   held ns t at s h e = record {
     is_nodes = s;

@@ -428,7 +428,7 @@ matched_time y es xs Never = Never
 abbrev pub minterm_time : ℕ → List (Option ℕ) → List Time → Time
 minterm_time y es xs = before_times (together_times (number_times y es xs)) (dash_times es xs)
 
--- what the minterm's time tells, where it is a number
+-- what the minterm's time says, where it is a number
 minterm_fits : (y v : ℕ) (es : List (Option ℕ)) (xs : List Time) → length es ≡ length xs → AllUpToRow y es → list_any is_zero es ≡ true → minterm_time y es xs ≡ At v → Fits (v - y) y es xs × (y ≤ v)
 minterm_fits y v es xs l u z h =
     let b = before_to (together_times (number_times y es xs)) (dash_times es xs) v h in

@@ -57,7 +57,7 @@ module _ (laws : PlantingLaws) where
       let one = one_more laws a b c (number_terms y 0 (take k es)) at (delayed (Input k) (y - e)) r p (subst (λ m. IsPlanted b c (delayed (Input k) m) r) by (subst (λ u. IsPlanted b c (delayed u cycles) r) input q)) in
       subst (ArePlanted a c (number_terms y 0 (take (k + 1) es))) (sym pushed) (subst (λ ts. ArePlanted a c ts (at ++ r ∷ [])) (sym (one_number y es k e f h is)) one)
 
-  -- a term alone
+  -- a single term
   pub alone : (ns : List Node) (terms : List Term) (d : Term) → IsNodes ns → All (λ t. t.0 < length ns) terms → 1 ≤ length terms → length terms < 2 → IsPlanted ns ns (together (trees_at ns terms)) (get_or terms 0 d)
   alone ns [] d s all some few = absurd (omega (arith, some))
   alone ns (t ∷ []) d s all some few = held laws ns (tree ns t.0) t s (All-head (λ (t : Term). t.0 < length ns) t [] all) refl
@@ -86,7 +86,7 @@ module _ (laws : PlantingLaws) where
       together_planted a b c d e t terms x y z r (All-head (λ (t : Term). t.0 < length a) t terms all) (All-tail (λ (t : Term). t.0 < length a) t terms all) (omega (arith, some))
       (subst (λ ts. IsPlanted a b (joined Max (tree a t.0) (trees_at a ts)) x) rest p) (subst (λ ts. IsPlanted b c (joined Min (tree b t.0) (trees_at b ts)) y) rest q) v w
 
-  -- a term that stands in the store, as far as it comes before others
+  -- a term that is in the store, as far as it comes before others
   pub before_others : (a b c : List Node) (term : Term) (others : List Term) (f : Term) (y r : Term) → IsNodes a → term.0 < length a → 1 ≤ length others
       → IsPlanted a b (joined Min (tree a (get_or others 0 f).0) (trees_at a (take (length others - 1) (drop 1 others)))) y → IsPlanted b c (Lt (tree b term.0) (tree b y.0)) r
       → IsPlanted a c (before_all (tree a term.0) (trees_at a others)) r

@@ -1,4 +1,4 @@
--- What a look-up of names tells of an expression.
+-- What a look-up of names says of an expression.
 use Rattle.std.proofs.Common.{◌≡◌, ℕ, suc, ◌+◌, ◌≤◌, ◌<◌, Bool, true, false, cond, ◌&&◌, ◌||◌, List, [], ◌∷◌, ◌++◌, length, Option, Some, None, refl, sym, ap, subst, ◌∙◌, arith}
 use Rattle.std.specs.Prelude.{max, is_some, fold}
 use Rattle.std.specs.List.{list_any}
@@ -33,7 +33,7 @@ place_any i t (x ∷ xs) = first (bytes_eq t x) (place_any (i + 1) t xs) where
   first true again = refl
   first false again = again
 
--- a name that stands nowhere has no place
+-- a name that occurs nowhere has no place
 pub no_place : (i : ℕ) (t : List ℕ) (xs : List (List ℕ)) → list_any (bytes_eq t) xs ≡ false → place_from i t xs ≡ None
 no_place i t [] h = refl
 no_place i t (x ∷ xs) h = let p = or_parts (bytes_eq t x) (list_any (bytes_eq t) xs) h in rw (p.0) (no_place (i + 1) t xs p.1)

@@ -1,4 +1,4 @@
--- The names of a printing stand for what was printed.
+-- The names of a printing mean what was printed.
 use Rattle.std.proofs.Common.{◌≡◌, ℕ, zero, suc, ◌+◌, ◌≤◌, ◌<◌, Bool, true, false, not, ◌||◌, List, [], ◌∷◌, ◌++◌, length, Some, None, refl, sym, ap, ◌∙◌, arith}
 use Rattle.std.specs.Prelude.{is_some, slice_index_or}
 use Rattle.std.specs.List.{list_any, list_all}
@@ -27,7 +27,7 @@ distinct_front (x ∷ xs) ys d =
     let b = or_parts (list_any (bytes_eq x) xs) (list_any (bytes_eq x) ys) (sym (list_any-append (bytes_eq x) xs ys) ∙ not-true (list_any (bytes_eq x) (xs ++ ys)) a.0) in
     and_from (not (list_any (bytes_eq x) xs)) (are_distinct xs) (ap not b.0) (distinct_front xs ys a.1)
 
--- a name that stands nowhere stands at no place
+-- a name that occurs nowhere has no place
 not_at : (x : List ℕ) (ys : List (List ℕ)) (k : ℕ) → list_any (bytes_eq x) ys ≡ false → k < length ys → bytes_eq x (at ys k) ≡ false
 not_at x [] k h l = absurd (omega (arith, l))
 not_at x (y ∷ ys) zero h l = (or_parts (bytes_eq x y) (list_any (bytes_eq x) ys) h).0
@@ -37,7 +37,7 @@ or_from : (a b : Bool) → a ≡ false → b ≡ false → (a || b) ≡ false
 or_from false b e g = g
 or_from true b e g = absurd cc
 
--- of distinct names those after stand nowhere before
+-- of distinct names those after occur nowhere before
 pub apart : (xs ys : List (List ℕ)) (k : ℕ) → are_distinct (xs ++ ys) ≡ true → k < length ys → list_any (bytes_eq (at ys k)) xs ≡ false
 apart [] ys k d l = refl
 apart (x ∷ xs) ys k d l =
@@ -84,7 +84,7 @@ resolves m lets (f.Max a b) s o p = λ i. f.Max (resolves m lets a s o.0 p.0 i) 
 resolves m lets (f.Lt a b) s o p = λ i. f.Lt (resolves m lets a s o.0 p.0 i) (resolves m lets b s o.1 p.1 i)
 resolves m lets (f.Inc a c) s o p = λ i. f.Inc (resolves m lets a s o p.0 i) (p.1.value i)
 
--- a name that has a place stands somewhere
+-- a name that has a place occurs somewhere
 has_place : (t : List ℕ) (xs : List (List ℕ)) (i : ℕ) → place_of t xs ≡ Some i → list_any (bytes_eq t) xs ≡ true
 has_place t xs i e = sym (place_any 0 t xs) ∙ ap is_some e
 

@@ -25,7 +25,7 @@ use Rattle.net_lang.proofs.PrintedRules.{kept, few, is_formed, extends, line_kep
 
 -- ---- the first two lines
 
--- distinct names stand nowhere twice
+-- distinct names occur nowhere twice
 once : (xs ys : List (List ℕ)) → are_distinct (xs ++ ys) ≡ true → some_twice xs ys ≡ false
 once xs [] d = refl
 once xs (y ∷ ys) d =

@@ -1,4 +1,4 @@
--- What the names of a network in the making stand for, as a reader looks them up.
+-- What the names of a network in the making mean, as a reader looks them up.
 use Rattle.std.specs.Prelude.{◌≡◌, ℕ, ◌+◌, ◌^◌, ◌<◌, ◌≤◌, max, min, Bool, true, false, ◌&&◌, List, Option, Some, None, slice_index_or}
 use Rattle.std.specs.List.{list_any}
 use Rattle.std.specs.Str.{bytes_eq}

@@ -1,4 +1,4 @@
--- What the names of a network in the making stand for.
+-- What the names of a network in the making mean.
 use Rattle.std.specs.Prelude.{ℕ, ◌+◌, Bool, true, ◌&&◌, if◌then◌else◌, List, [], ◌∷◌, ◌++◌, Option, Some, None}
 use Rattle.std.specs.List.{list_any}
 use Rattle.std.specs.Str.{bytes_eq}
@@ -22,7 +22,7 @@ named (Some i) j = f.Input i
 named None (Some j) = f.Named j
 named None None = f.Never
 
--- the formula that an expression stands for
+-- the formula that an expression means
 abbrev pub resolved : Net → Expression → Formula
 resolved n Never = f.Never
 resolved n (Name t) = named (place_of t n.inputs) (place_of t (names_of n.lets))

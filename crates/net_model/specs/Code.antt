@@ -5,7 +5,7 @@ use base.Stored.{Gv, gnil, gnum, gcons, num}
 use denote.Struct.Codes.{itself}
 use Rattle.net_model.specs.Formula.{Formula, Never, Input, Named, Min, Max, Lt, Inc, Equation, Net}
 
--- a number that tells the constructors apart, and two parts
+-- a number that distinguishes the constructors, and two parts
 abbrev pub node : ℕ → Gv → Gv → Gv
 node n a b = gcons (gnum n) (gcons a b)
 

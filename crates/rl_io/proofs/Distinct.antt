@@ -1,4 +1,4 @@
--- Names that are told apart by a look-up of each among the later ones.
+-- Names that are distinguished by a look-up of each among the later ones.
 use Rattle.std.proofs.Common.{◌≡◌, ℕ, List, [], ◌∷◌, Option, Some, None, refl, suc, sym, subst, arith}
 use Rattle.std.specs.Prelude.{Bool, true, false, cond, All, is_some}
 use Rattle.std.specs.Map.{lookup}

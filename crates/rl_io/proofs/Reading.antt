@@ -14,7 +14,7 @@ use Rattle.rl_io.specs.declared.shelf.Fetched.TheVariants.{Got, End}
 abbrev pub IsFront : Option (List ℕ) → List ℕ → Type 0
 IsFront file text = MatchOption file (text ≡ []) (λ file. text ≡ take (length text) file)
 
--- where files are told, the text is the front of the file
+-- where files are known, the text is the front of the file
 abbrev pub HasRead : Option Files → List ℕ → List ℕ → Type 0
 HasRead told name text = IfSome told (λ files. IsFront (lookup (bytes_eq name) files) text)
 

@@ -307,7 +307,7 @@ NoWindowCause = (f : List Time → Time) (w n : ℕ) (e : TabError) → IsInReac
 abbrev pub WindowOrCause : Type 0
 WindowOrCause = (f : List Time → Time) (w n : ℕ) → (IsInReach f w n × (length (window_rows f w n) ≤ 256)) ⊎ ((e : TabError) × (e ≢ tab.NoMemory) × IsWindowCause f w n e)
 
--- the error that a fault of a window tells
+-- the error that a fault of a window reports
 abbrev error_of : Fault → TabError
 error_of (fault.TooWide w) = tab.TooWide
 error_of (fault.TooLate y) = tab.TooLate y

@@ -46,7 +46,7 @@ joined (x ∷ xs) ys p q across =
     (All-append (λ b. x ≢ b) xs ys (λ k d lt. p zero (suc k) d (omega arith) (omega arith)) (across zero x (omega arith)))
     (joined xs ys (pairs_tail x xs p) q (λ k d lt. across (suc k) d (omega arith)))
 
--- names that stand for their places
+-- names that mean their places
 abbrev Tagged : List Entry → (ℕ → Meaning) → List (List ℕ) → Type 0
 Tagged es tag ns = (k : ℕ) (n : List ℕ) → slice_get ns k ≡ Some n → found n es ≡ Some (tag k)
 

@@ -32,7 +32,7 @@ pub next_grows : (m n : Circuit) → Grows m n → (o : Option Logic) → NextIn
 next_grows m n g None h = tt
 next_grows m n g (Some x) h = in_range_grows m n g x h
 
--- the second has what the first has, and the names stand for the same
+-- the second has what the first has, and the names mean the same
 pub record Extends (x y : SoFar) : Type 0 where
   pub entries : (n : List ℕ) (m : Meaning) → found n x.entries ≡ Some m → found n y.entries ≡ Some m
   pub grows : Grows (module_of x) (module_of y)

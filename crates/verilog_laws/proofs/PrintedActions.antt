@@ -104,7 +104,7 @@ target_found m p s (target.Out o) h =
     subst (λ (q : Option (List ℕ)). target_of (found (out_name (name_text q)) (entries_of m)) ≡ Some (target.Out o)) (sym a.1) (ap target_of (s.output o a.0 a.1))
 
 module _ (m : Circuit) (p : IsPrintable m) (s : IsScope m (entries_of m)) (ord : IsOrdered m) where
-  -- an assign that stands after these
+  -- an assign that is after these
   assign_keeps : (done rest : List Assignment) (a : Assignment) (rs : List Declared) → m.assigns ≡ done ++ a ∷ rest → SameWidths m rs → IsInRange m a.bit
       → (first_rule (acting m done rs) (printed_assign m a) ≡ None) × (after (acting m done rs) (printed_assign m a) ≡ acting m (done ++ a ∷ []) rs)
   assign_keeps done rest a rs q wide range =

@@ -1,4 +1,4 @@
--- The names that a module declares, and what each stands for.
+-- The names that a module declares, and what each means.
 use Rattle.std.proofs.Common.{◌≡◌, ◌≢◌, ℕ, zero, suc, ◌+◌, ◌<◌, Bool, true, false, not, List, [], ◌∷◌, ◌++◌, length, get_or, map, Some, None, refl, sym, ap, subst, ◌∙◌, arith, append_assoc, cond}
 use Rattle.std.specs.Prelude.{AllPairs, codes, slice_get, bytes_eq}
 use Rattle.std.specs.List.{list_any}
@@ -39,13 +39,13 @@ distinct_behind (x ∷ xs) ys d = distinct_behind xs ys (and_parts (not (list_an
 eq_comm : (x y : List ℕ) → bytes_eq x y ≡ false → bytes_eq y x ≡ false
 eq_comm x y h = false_from_ne_true (bytes_eq y x) (λ t. both_ways (bytes_eq x y) h ((bytes_eq-Decides x y).1 (sym ((bytes_eq-Decides y x).0 t))))
 
--- a name that stands nowhere stands at no place
+-- a name that occurs nowhere has no place
 not_at : (x : List ℕ) (ys : List (List ℕ)) (k : ℕ) (y : List ℕ) → list_any (bytes_eq x) ys ≡ false → slice_get ys k ≡ Some y → bytes_eq x y ≡ false
 not_at x [] k y h e = absurd cc
 not_at x (z ∷ ys) zero y h e = let same : z ≡ y = cc in subst (λ v. bytes_eq x v ≡ false) same (or_parts (bytes_eq x z) (list_any (bytes_eq x) ys) h).0
 not_at x (z ∷ ys) (suc k) y h e = not_at x ys k y (or_parts (bytes_eq x z) (list_any (bytes_eq x) ys) h).1 e
 
--- of distinct names those after stand nowhere before
+-- of distinct names those after occur nowhere before
 apart : (xs ys : List (List ℕ)) (k : ℕ) (y : List ℕ) → all_distinct (xs ++ ys) ≡ true → slice_get ys k ≡ Some y → list_any (bytes_eq y) xs ≡ false
 apart [] ys k y d e = refl
 apart (x ∷ xs) ys k y d e =
@@ -77,7 +77,7 @@ found_front n (e ∷ es) fs v h = turn (bytes_eq n e.name) (found_front n es fs 
 pub is_new : (es : List Entry) (n : List ℕ) (behind : List (List ℕ)) → all_distinct (names_in es ++ n ∷ behind) ≡ true → found n es ≡ None
 is_new es n behind d = none_found n es (apart (names_in es) (n ∷ behind) 0 n d refl)
 
--- names, each with what it stands for by its place
+-- names, each with what it means by its place
 abbrev pub entries_at : (ℕ → Meaning) → ℕ → List (List ℕ) → List Entry
 entries_at f k [] = []
 entries_at f k (n ∷ names) = record { name = n; meaning = f k } ∷ entries_at f (suc k) names
@@ -141,7 +141,7 @@ register_names rs = map (λ (r : Register). r.name) rs
 abbrev pub entries_of : Circuit → List Entry
 entries_of m = entries (map in_name m.inputs) (map out_name m.outputs) m.wires (register_names m.regs)
 
--- each name of the module stands for what it names
+-- each name of the module means what it names
 pub record IsScope (m : Circuit) (es : List Entry) : Type 0 where
   pub input : (i : ℕ) (n : List ℕ) → slice_get m.inputs i ≡ Some n → found (in_name n) es ≡ Some (InputAt i)
   pub output : (o : ℕ) (n : List ℕ) → slice_get m.outputs o ≡ Some n → found (out_name n) es ≡ Some (OutputAt o)

@@ -13,7 +13,7 @@ use Rattle.circuit.specs.Valid.{IsValid}
 
 -- ---- lists
 
--- at a place inside a list stands an element, which passes where all pass
+-- at a place inside a list is an element, which passes where all pass
 pub some_at : {X : Type 0} (p : X → Bool) (xs : List X) (i : ℕ) → list_all p xs ≡ true → i < length xs → (x : X) × (slice_get xs i ≡ Some x) × (p x ≡ true)
 some_at p [] i h l = absurd (omega (arith, l))
 some_at p (x ∷ xs) zero h l = (x, refl, (and_parts (p x) (list_all p xs) h).0)

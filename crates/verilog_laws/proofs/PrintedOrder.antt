@@ -1,4 +1,4 @@
--- The statements of a printed module are formed, and stand in the order that is asked for.
+-- The statements of a printed module are formed, and are in the order that is asked for.
 use Rattle.std.proofs.Common.{◌≡◌, ℕ, ◌-◌, ◌≤◌, Bool, true, false, cond, List, [], ◌∷◌, ◌++◌, map, Some, None, refl, arith, append_assoc, eqb}
 use Rattle.std.specs.Prelude.{codes, decimal}
 use Rattle.std.specs.List.{list_all, AllByRecursion}

@@ -1,4 +1,4 @@
--- What is printed stands for what it was, and keeps the rules of expressions.
+-- What is printed means what it was, and keeps the rules of expressions.
 use Rattle.std.proofs.Common.{◌≡◌, ℕ, ◌≤◌, ◌<◌, Bool, true, false, cond, ◌&&◌, List, Option, Some, refl, sym, ap, subst, ◌∙◌, arith, eqb}
 use Rattle.std.specs.Prelude.{decimal, slice_get, nat_lt}
 use Rattle.std.proofs.lemmas.Bool.{and_from, or_left, or_right, eqb-true}

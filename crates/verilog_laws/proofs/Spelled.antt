@@ -30,7 +30,7 @@ words_valid words ss m are is = statements_valid ss m (in_order Start words ss [
 pub spelled_valid : (text : List ℕ) (m : Circuit) → SpellsModule text m → IsValid m
 spelled_valid text m x = words_valid (lexemes text x.tokens) x.statements m x.are x.stand
 
--- ---- words are statements, or there is a first place at which none stands
+-- ---- words are statements, or there is a first place at which none is
 
 -- what is known of reading
 abbrev pub Opened : Type 0
@@ -85,7 +85,7 @@ module _ (opened : Opened) (again : ReadAgain) where
   parsed (suc fuel) Actions ls lt f = turn Actions ls (λ j rest less g. parsed fuel j rest (omega (arith, less, lt)) g) (λ e. cc) (statement_at Actions ls) refl
   parsed (suc fuel) Finished ls lt f = inl ([], (refl, f refl))
 
-  -- ---- statements stand, or one breaks a rule first
+  -- ---- statements hold, or one breaks a rule first
 
   judged : (x : SoFar) (ss : List Statement) → ((last : SoFar) × AllStand x ss last) ⊎ ((r : Rule) × (line : ℕ) × FirstBroken x ss r line)
   judged x [] = inl (x, refl)

@@ -13,7 +13,7 @@ use Rattle.verilog_text.specs.Grammar.{Expression, Low, High, Name, Bit, Not, Gr
 
 -- ---- what some statements declare
 
--- what a declared name stands for: the clock or the reset; an input, an output, a wire or a register, by its place
+-- what a declared name means: the clock or the reset; an input, an output, a wire or a register, by its place
 pub data Meaning : Type 0 where
   ClockOrReset : Meaning
   InputAt : ℕ → Meaning
@@ -46,7 +46,7 @@ pub record SoFar : Type 0 where
 abbrev pub nothing_yet : SoFar
 nothing_yet = record { to_declare = []; entries = []; inputs = []; outputs = []; wires = []; regs = []; assigns = [] }
 
--- what a name stands for
+-- what a name means
 abbrev pub found : List ℕ → List Entry → Option Meaning
 found n [] = None
 found n (e ∷ entries) = if bytes_eq n e.name then Some e.meaning else found n entries

@@ -1,6 +1,6 @@
 use rl_text::NameMap;
 
-/// What a name stands for, by its place among the inputs or the lets.
+/// What a name means, by its place among the inputs or the lets.
 #[derive(Clone, Copy, Debug, PartialEq, Eq)]
 pub enum Place {
     Input(usize),
@@ -8,7 +8,7 @@ pub enum Place {
     Output,
 }
 
-/// What is known of a name: what it stands for, and its span in cycles.
+/// What is known of a name: what it means, and its span in cycles.
 #[derive(Clone, Copy, Debug, PartialEq, Eq)]
 pub struct Known {
     pub place: Place,
