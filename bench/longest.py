@@ -52,6 +52,18 @@ def nested_lt():
     return lets(INPUTS, bodies, ["p15999"])
 
 
+def one_operand(op):
+    """8,192 max of one operand and 8,192 lt along the chain, or 8,192 min and 4,096 lt, which are joined by max."""
+    bodies = ["inc(a0, 1)" if op == "max" else "lt(a1, a0)"] + ["%s(a0, p%d)" % (op, k) for k in range(OPERATORS // 2 - 1)]
+    last = len(bodies) - 1
+    if op == "max":
+        bodies += ["lt(%s, p%d)" % ("p%d" % (last + k) if k else "a0", last) for k in range(OPERATORS // 2)]
+    else:
+        for k in range(OPERATORS // 4):
+            bodies += ["lt(p%d, a0)" % (last - k), "max(p%d, p%d)" % (last + 2 * k, last + 2 * k + 1)]
+    return lets(INPUTS[:2], bodies, ["p%d" % (len(bodies) - 1)])
+
+
 def padded(text, size):
     """The text with comments up to a size."""
     line = "# " + "x" * 60 + "\n"
@@ -109,6 +121,8 @@ def cases(folder, program):
     yield "random, 16,384 operators, 1 MiB", ["simplify", full], 1
     yield "a chain of 16,384 operators", ["simplify", chain], 1
     yield "8,000 `lt` over a chain of 8,000 `max`", ["simplify", put("lt.net", nested_lt())], 1
+    yield "8,192 `lt` along a chain of 8,192 `max` of one operand", ["simplify", put("max.net", one_operand("max"))], 1
+    yield "4,096 `lt` along a chain of 8,192 `min` of one operand", ["simplify", put("min.net", one_operand("min"))], 1
     yield "16 inputs, 16,384 operators, 65,536 lists", ["tabulate", sixteen, "y0", "0"], 1
     yield "16 inputs, of which 3 operators are needed, beside 16,381", ["tabulate", put("few.net", few_needed()), "y0", "0"], 1
     yield "8 inputs, 16,384 operators, 65,536 lists", ["tabulate", eight, "y0", "2"], 1
@@ -125,7 +139,20 @@ def cases(folder, program):
     yield "a tree of 10,000 leaves over 16,384 operators", ["check", nets, nets, put("leaves.tree", many_leaves(10000))], 350
     lone = put("lone.net", "racenet 1\ninput a\noutput y0 = a\n")
     yield "a tree of 500,000 leaves, no operator", ["check", lone, lone, put("lone.tree", many_leaves(500000))], 1
+    for operators, opened, fits in ((11, "14,335", 70), (16384, "100,000", 10)):  # a budget may be 1,000,000 cases
+        left, right = (put("%s%d.net" % (side, operators), nested_min(12, side == "right", operators)) for side in ("left", "right"))
+        what = "`min` of 12 inputs from the left and from the right, %s operators, %s cases" % (format(operators, ","), opened)
+        yield what, ["compare", left, right], fits
     yield "16,384", ["big", "16384"], 1
+
+
+def nested_min(inputs, from_right, operators):
+    """The `min` of the inputs, nested from one side, and operators over it up to so many. The cases are 2^(inputs-2) * (inputs+2) - 1."""
+    names = INPUTS[:inputs]
+    order = names[::-1] if from_right else names
+    bodies = ["min(%s, %s)" % (("p%d" % (k - 1), order[k + 1]) if k else (order[0], order[1])) for k in range(inputs - 1)]
+    bodies += ["max(p%d, %s)" % (k - 1, names[k % inputs]) for k in range(inputs - 1, operators)]
+    return lets(names, bodies, ["p%d" % (len(bodies) - 1)])
 
 
 def few_needed():
