@@ -7,6 +7,7 @@ pub mod Reaching
 pub mod Splitting
 pub mod Leading
 pub mod Walking
+pub mod OneWay
 pub mod Unsettled
 pub mod Cells
 pub mod Values

@@ -12,6 +12,8 @@ use Rattle.std.proofs.lemmas.Int.{ints}
 use Rattle.refutation.specs.Path.{assumption}
 use Rattle.case_split.specs.Stages.{Stage, Stages, assumed}
 use Rattle.case_split.specs.Nested.{begun_one, begun, IsFrom, AreNested}
+use Rattle.case_split.specs.declared.comparison.Comparison.{Comparison}
+use Rattle.case_split.specs.Steps.{yes_assumption}
 
 -- the sides begin within the lists
 from_le : (depth n m : ℕ) (later : List Later) (path : Path) (facts : List Fact) (forms : List Form) → IsFrom depth n m later path facts forms
@@ -156,3 +158,7 @@ split_nested inputs path facts forms later later' old d n m i j v w form h is la
 pub begun_long : (path : Path) (facts : List Fact) (forms : List Form) (later : List Later) → length (begun path facts forms later) ≡ length later
 begun_long path facts forms [] = refl
 begun_long path facts forms (l ∷ later) = let h = begun_long path facts forms later in let a = length-append (begun path facts forms later) (begun_one path facts forms l ∷ []) in omega (arith, h, a)
+
+-- bounds take what is assumed where a comparison is so
+pub yes_near : (inputs : ℕ) (c : Comparison) → c.from < inputs → c.to < inputs → c.from_cycles ≤ 1000000 → c.to_cycles ≤ 1000000 → IsNear inputs (yes_assumption c)
+yes_near inputs c from to from_cycles to_cycles = record { from = from; to = to; low = omega (arith, ints, from_cycles, to_cycles); high = omega (arith, ints, from_cycles, to_cycles) }

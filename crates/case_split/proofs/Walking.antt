@@ -194,7 +194,7 @@ module _ (task : Task) (items : List Item) (s : Stage) (stages : List Stage) (c 
       one_and k = omega arith
 
 -- the stage of the premises
-begins_at : (task : Task) → IsTask task → IsAt task (record { path = root task.premises; facts = []; forms = [] })
+pub begins_at : (task : Task) → IsTask task → IsAt task (record { path = root task.premises; facts = []; forms = [] })
 begins_at task rules = record {
   stage = record {
     premises = ([], sym (append-nil (root task.premises)));

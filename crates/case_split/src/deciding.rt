@@ -24,7 +24,8 @@ use term_store::{Store, Term};
 use tree_check::valid_trees_decide;
 
 /// Whether output `out` of two networks is equal at all times that meet the premises, by a least tree, of at most `budget` items. It is
-/// undecided only where no valid tree has as few. Both outputs are planted in the store, which is afterwards what it was.
+/// undecided only where no valid tree has as few. Drawn times and single ways through the cases come first, and count as no items. Both
+/// outputs are planted in the store, which is afterwards what it was.
 ///
 /// Both networks have the same number of inputs. At most 128 premises name inputs and are by at most 1,000,000 cycles. The budget is 1 to
 /// 1,000,000, and the store holds at most 131,072 nodes. The error is that memory ran out.

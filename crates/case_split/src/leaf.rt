@@ -34,6 +34,7 @@ pub fn judge(
         IfOk result (IsEnding task.inputs stages.old.now.path (tree task.nodes first.0) (tree task.nodes second.0)) }
     ensures inputs { stages.new.inputs ≡ stages.old.inputs }
     ensures later { OnOk result (stages.new.later ≡ stages.old.later) }
+    ensures path { OnOk result ((rest : Path) × (stages.new.now.path ≡ stages.old.now.path ++ rest)) }
 {
     let f = form_at(stages.forms(), first);
     let g = form_at(stages.forms(), second);
@@ -46,7 +47,7 @@ pub fn judge(
 }
 
 /// The form of a place, and never past the end.
-fn form_at(forms: &[Form], place: Term) -> Form
+pub fn form_at(forms: &[Form], place: Term) -> Form
     ensures { result ≡ form_at forms.now place.0 }
 {
     match forms.get(place.0 as usize) {

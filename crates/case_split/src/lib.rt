@@ -18,11 +18,13 @@ mod later;
 mod laws;
 mod leaf;
 mod question;
+mod sides;
 mod stages;
 mod steps;
 mod tying;
 mod verdict;
 mod walk;
+mod ways;
 
 pub use compared::Compared;
 pub use comparing::compare;

@@ -1,4 +1,4 @@
-ghost use Rattle.std.specs.Prelude.{◌≡◌, ◌+◌, ◌≤◌, ◌<◌, ◌++◌, ◌∷◌, [], ℕ, pos, negsuc, neg_ℤ, ◌-ℤ◌, ◌≤ℤ◌, List, Some, true, length, IfOk, OnOk, MatchOption};
+ghost use Rattle.std.specs.Prelude.{◌≡◌, ◌+◌, ◌≤◌, ◌<◌, ◌++◌, ◌∷◌, [], ℕ, pos, negsuc, neg_ℤ, ◌-ℤ◌, ◌≤ℤ◌, List, Some, true, length, take, IfOk, OnOk, MatchOption};
 ghost use Rattle.std.specs.List.{All, AllByRecursion};
 ghost use Rattle.std.specs.Bool.{MatchBool};
 ghost use Rattle.net_model.specs.declared.assume.Assume.{Assume};
@@ -18,6 +18,7 @@ use crate::assuming::{add, cut, implied, is_kept, premised};
 use crate::comparison::{Choice, Comparison};
 use crate::hints::{note, pair, tells};
 use crate::later::Later;
+use crate::sides::{no_side, yes_side};
 use diff_bounds::Bounds;
 use net_model::Assume;
 use refutation::{Assumption, Chain, Fact};
@@ -202,26 +203,49 @@ impl Stages {
         ensures now { OnOk result (self.new.now ≡ assumed self.old.now (yes_assumption choice.comparison) choice.yes) }
         ensures later { OnOk result (self.new.later ≡ assumed self.old.now (no_assumption choice.comparison) choice.no ∷ self.old.later) }
     {
-        let c = choice.comparison;
-        let width = i64::from(c.to_cycles) - i64::from(c.from_cycles);
         let depth = self.bounds.assumptions().len();
         self.later.push(Later {
             depth,
             facts: self.facts.len(),
             forms: self.forms.len(),
-            side: Assumption {
-                from: c.to,
-                to: c.from,
-                bound: -width - 1,
-            },
+            side: no_side(choice.comparison),
             form: choice.no,
         })?;
-        let side = Assumption {
-            from: c.from,
-            to: c.to,
-            bound: width,
-        };
-        self.begin(side, choice.yes)
+        self.begin(yes_side(choice.comparison), choice.yes)
+    }
+
+    /// Assumes that the comparison is so, or that it isn't, which gives the next place its form. The other side isn't pending.
+    pub fn take(&mut self, choice: Choice, is_so: bool) -> Result<(), NoMemory>
+        requires from { choice.comparison.from < self.old.inputs }
+        requires to { choice.comparison.to < self.old.inputs }
+        requires from_cycles { choice.comparison.from_cycles ≤ 1000000 }
+        requires to_cycles { choice.comparison.to_cycles ≤ 1000000 }
+        requires few_inputs { self.old.inputs ≤ 64 }
+        requires room { length self.old.now.path ≤ 65535 }
+        requires yes_possible { IsPossible (self.old.now.path ++ yes_assumption choice.comparison ∷ []) }
+        requires no_possible { IsPossible (self.old.now.path ++ no_assumption choice.comparison ∷ []) }
+        ensures inputs { self.new.inputs ≡ self.old.inputs }
+        ensures now { OnOk result (MatchBool is_so
+            (self.new.now ≡ assumed self.old.now (yes_assumption choice.comparison) choice.yes)
+            (self.new.now ≡ assumed self.old.now (no_assumption choice.comparison) choice.no)) }
+        ensures later { OnOk result (self.new.later ≡ self.old.later) }
+    {
+        if is_so {
+            self.begin(yes_side(choice.comparison), choice.yes)
+        } else {
+            self.begin(no_side(choice.comparison), choice.no)
+        }
+    }
+
+    /// Goes back to the first so many of the assumptions. No place has a form then, and nothing is pending.
+    pub fn restart(&mut self, depth: usize)
+        ensures inputs { self.new.inputs ≡ self.old.inputs }
+        ensures now { self.new.now ≡ record { path = take depth self.old.now.path; facts = []; forms = [] } }
+    {
+        cut(&mut self.bounds, depth);
+        self.facts.clear();
+        self.forms.clear();
+        self.later.clear();
     }
 
     /// Goes back to the last pending side: whether there was one.

@@ -11,6 +11,7 @@ use crate::ending::{Decision, Ending};
 use crate::leaf::judge;
 use crate::question::Question;
 use crate::stages::Stages;
+use crate::ways::difference_on_ways;
 use net_model::Assume;
 use refutation::{Item, Tree};
 use rl_time::NoMemory;
@@ -32,6 +33,9 @@ pub fn settle(
     requires few { budget ≤ 1000000 }
     ensures { IfOk result (IsDecision inputs premises.now (tree store.now.nodes first.0) (tree store.now.nodes second.0) (joins store.now.nodes) budget) }
 {
+    if let Some(apart) = difference_on_ways(alloc, store, first, second, inputs, premises)? {
+        return Ok(Decision::Different(apart));
+    }
     let question = Question::new(store, first, second, inputs, premises);
     let mut stages = Stages::new(alloc, inputs, premises)?;
     let mut items = Tree::new(alloc);

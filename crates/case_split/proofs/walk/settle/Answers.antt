@@ -33,64 +33,64 @@ returns-then-opened-budget c =
     let rules : IsTask task = subst (λ (t : Task). IsTask t) (sym c.new-question.ensures) c.requires.task in
     let e = c.in_ok-choice.ensures in
     let walk : IsWalk task c.walk.items (c.advance.new.stages.now ∷ c.walk.stages.later) = walk_advances task c.walk.items c.walk.stages.now c.advance.new.stages.now c.walk.stages.later c.walk.invariant.walk e.at e.path e.fewer in
-    let waits = rw c.in-Some.is at e.next in
+    let waits = rw c.in-Some-2.is at e.next in
     let within = c.walk.invariant.opened in
     let later = ap (λ (ss : List Stage). length ss) e.later in
-    subst (λ (t : Task). Decides t c.args.budget (decision.Undecided c.in_ok-left_open-in-Some.field-0)) c.new-question.ensures
-    (subst (λ (i : List Item). Decides task c.args.budget (decision.Undecided i)) (sym c.in_ok-left_open-in-Some.ensures)
-    (walk_undecided task c.walk.items c.advance.new.stages.now c.walk.stages.later c.in-Some.choice c.args.budget rules walk waits (omega arith) (omega arith) _ (omega (arith, later))))
+    subst (λ (t : Task). Decides t c.args.budget (decision.Undecided c.in_ok-left_open-in-Some-2.field-0)) c.new-question.ensures
+    (subst (λ (i : List Item). Decides task c.args.budget (decision.Undecided i)) (sym c.in_ok-left_open-in-Some-2.ensures)
+    (walk_undecided task c.walk.items c.advance.new.stages.now c.walk.stages.later c.in-Some-2.choice c.args.budget rules walk waits (omega arith) (omega arith) _ (omega (arith, later))))
 
 pub split_on-requires-clause-from_cycles : goal.split_on-requires-clause-from_cycles
 split_on-requires-clause-from_cycles c =
     let task = c.new-question.result in
     let rules : IsTask task = subst (λ (t : Task). IsTask t) (sym c.new-question.ensures) c.requires.task in
-    split_from_cycles task c.advance.new.stages.now c.in-Some.choice rules c.in_ok-choice.ensures.at (rw c.in-Some.is at c.in_ok-choice.ensures.next)
+    split_from_cycles task c.advance.new.stages.now c.in-Some-2.choice rules c.in_ok-choice.ensures.at (rw c.in-Some-2.is at c.in_ok-choice.ensures.next)
 
 pub split_on-requires-clause-to_cycles : goal.split_on-requires-clause-to_cycles
 split_on-requires-clause-to_cycles c =
     let task = c.new-question.result in
     let rules : IsTask task = subst (λ (t : Task). IsTask t) (sym c.new-question.ensures) c.requires.task in
-    split_to_cycles task c.advance.new.stages.now c.in-Some.choice rules c.in_ok-choice.ensures.at (rw c.in-Some.is at c.in_ok-choice.ensures.next)
+    split_to_cycles task c.advance.new.stages.now c.in-Some-2.choice rules c.in_ok-choice.ensures.at (rw c.in-Some-2.is at c.in_ok-choice.ensures.next)
 
 pub split-requires-clause-from_cycles : goal.split-requires-clause-from_cycles
 split-requires-clause-from_cycles c =
     let task = c.new-question.result in
     let rules : IsTask task = subst (λ (t : Task). IsTask t) (sym c.new-question.ensures) c.requires.task in
-    split_from_cycles task c.advance.new.stages.now c.in-Some.choice rules c.in_ok-choice.ensures.at (rw c.in-Some.is at c.in_ok-choice.ensures.next)
+    split_from_cycles task c.advance.new.stages.now c.in-Some-2.choice rules c.in_ok-choice.ensures.at (rw c.in-Some-2.is at c.in_ok-choice.ensures.next)
 
 pub split-requires-clause-to_cycles : goal.split-requires-clause-to_cycles
 split-requires-clause-to_cycles c =
     let task = c.new-question.result in
     let rules : IsTask task = subst (λ (t : Task). IsTask t) (sym c.new-question.ensures) c.requires.task in
-    split_to_cycles task c.advance.new.stages.now c.in-Some.choice rules c.in_ok-choice.ensures.at (rw c.in-Some.is at c.in_ok-choice.ensures.next)
+    split_to_cycles task c.advance.new.stages.now c.in-Some-2.choice rules c.in_ok-choice.ensures.at (rw c.in-Some-2.is at c.in_ok-choice.ensures.next)
 
 pub split-requires-clause-from : goal.split-requires-clause-from
 split-requires-clause-from c =
     let task = c.new-question.result in
     let rules : IsTask task = subst (λ (t : Task). IsTask t) (sym c.new-question.ensures) c.requires.task in
     let same = c.in_ok-choice.ensures.inputs ∙ c.walk.invariant.inputs in
-    subst (λ (n : ℕ). c.in-Some.choice.comparison.from < n) (sym same) (split_from task c.advance.new.stages.now c.in-Some.choice rules c.in_ok-choice.ensures.at (rw c.in-Some.is at c.in_ok-choice.ensures.next))
+    subst (λ (n : ℕ). c.in-Some-2.choice.comparison.from < n) (sym same) (split_from task c.advance.new.stages.now c.in-Some-2.choice rules c.in_ok-choice.ensures.at (rw c.in-Some-2.is at c.in_ok-choice.ensures.next))
 
 pub split-requires-clause-to : goal.split-requires-clause-to
 split-requires-clause-to c =
     let task = c.new-question.result in
     let rules : IsTask task = subst (λ (t : Task). IsTask t) (sym c.new-question.ensures) c.requires.task in
     let same = c.in_ok-choice.ensures.inputs ∙ c.walk.invariant.inputs in
-    subst (λ (n : ℕ). c.in-Some.choice.comparison.to < n) (sym same) (split_to task c.advance.new.stages.now c.in-Some.choice rules c.in_ok-choice.ensures.at (rw c.in-Some.is at c.in_ok-choice.ensures.next))
+    subst (λ (n : ℕ). c.in-Some-2.choice.comparison.to < n) (sym same) (split_to task c.advance.new.stages.now c.in-Some-2.choice rules c.in_ok-choice.ensures.at (rw c.in-Some-2.is at c.in_ok-choice.ensures.next))
 
-pub walk-preserved-in-Some : goal.walk-preserved-in-Some
-walk-preserved-in-Some c =
+pub walk-preserved-in-Some-2 : goal.walk-preserved-in-Some-2
+walk-preserved-in-Some-2 c =
     let task = c.new-question.result in
     let rules : IsTask task = subst (λ (t : Task). IsTask t) (sym c.new-question.ensures) c.requires.task in
     let e = c.in_ok-choice.ensures in
     let walk : IsWalk task c.walk.items (c.advance.new.stages.now ∷ c.walk.stages.later) = walk_advances task c.walk.items c.walk.stages.now c.advance.new.stages.now c.walk.stages.later c.walk.invariant.walk e.at e.path e.fewer in
-    let waits = rw c.in-Some.is at e.next in
-    let two = split_opens_two c.walk.items c.push.new.self _ _ _ _ c.split_on.ensures c.in_ok-push-in-Some.ensures in
+    let waits = rw c.in-Some-2.is at e.next in
+    let two = split_opens_two c.walk.items c.push.new.self _ _ _ _ c.split_on.ensures c.in_ok-push-in-Some-2.ensures in
     let so_far = c.walk.invariant.opened in
     record {
       inputs = c.split.ensures.inputs ∙ (e.inputs ∙ c.walk.invariant.inputs);
-      walk = walk_split_is task c.walk.items c.push.new.self c.advance.new.stages.now c.split.new.self.now c.walk.stages.later c.split.new.self.later c.advance.new.stages.later c.in-Some.choice _ rules walk waits
-          c.split_on.ensures c.in_ok-push-in-Some.ensures c.in_ok-split-in-Some.ensures.now c.in_ok-split-in-Some.ensures.later e.later;
+      walk = walk_split_is task c.walk.items c.push.new.self c.advance.new.stages.now c.split.new.self.now c.walk.stages.later c.split.new.self.later c.advance.new.stages.later c.in-Some-2.choice _ rules walk waits
+          c.split_on.ensures c.in_ok-push-in-Some-2.ensures c.in_ok-split-in-Some-2.ensures.now c.in_ok-split-in-Some-2.ensures.later e.later;
       opened = omega (arith, two, so_far);
       within = omega arith;
     }
