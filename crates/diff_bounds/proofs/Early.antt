@@ -21,17 +21,17 @@ module _ (n : ℕ) (edges : List Assumption) (y d v t : ℕ → ℕ) (turn targe
   beyond : t asked < n → (l : ℕ) → l < n → (t l < n) ⊎ (d asked ≤ d l)
   beyond settled l h = elim (under (t l) n) [ inl lt ↦ inl lt | inr le ↦ inr (r.order asked l inside h settled le) ]
 
-  -- where it is not below the limit, each input below the limit is settled
-  pub all_settled : (enough : ℕ) → enough ≤ limit → IsEnded n d t limit asked enough → limit ≤ d asked → (l : ℕ) → l < n → (t l < n) ⊎ (limit ≤ d l)
-  all_settled enough few (inl lt) far l h = absurd (omega (arith, lt, far, few))
-  all_settled enough few (inr (inl settled)) far l h = elim (beyond settled l h) [ inl lt ↦ inl lt | inr le ↦ inr (omega (arith, far, le)) ]
-  all_settled enough few (inr (inr all)) far l h = all l h
+  -- where it is not below the limit, each input that is nearer than the stop is settled
+  pub all_settled : (stop enough : ℕ) → stop ≤ limit → enough ≤ limit → IsEnded n d t stop asked enough → limit ≤ d asked → (l : ℕ) → l < n → (t l < n) ⊎ (stop ≤ d l)
+  all_settled stop enough early few (inl lt) far l h = absurd (omega (arith, lt, far, few))
+  all_settled stop enough early few (inr (inl settled)) far l h = elim (beyond settled l h) [ inl lt ↦ inl lt | inr le ↦ inr (omega (arith, far, le, early)) ]
+  all_settled stop enough early few (inr (inr all)) far l h = all l h
 
-  -- where it is below the limit, it is settled
-  pub asked_settled : (enough : ℕ) → enough ≡ 0 → IsEnded n d t limit asked enough → d asked < limit → t asked < n
-  asked_settled enough none (inl lt) low = absurd (omega (arith, lt, none))
-  asked_settled enough none (inr (inl settled)) low = settled
-  asked_settled enough none (inr (inr all)) low = elim (all asked inside) [ inl lt ↦ lt | inr le ↦ absurd (omega (arith, low, le)) ]
+  -- where it is nearer than the stop, it is settled
+  pub asked_settled : (stop enough : ℕ) → enough ≡ 0 → IsEnded n d t stop asked enough → d asked < stop → t asked < n
+  asked_settled stop enough none (inl lt) low = absurd (omega (arith, lt, none))
+  asked_settled stop enough none (inr (inl settled)) low = settled
+  asked_settled stop enough none (inr (inr all)) low = elim (all asked inside) [ inl lt ↦ lt | inr le ↦ absurd (omega (arith, low, le)) ]
 
   pub chain_of_asked : t asked < n → d asked < limit → HasChain n edges asked target (raised y d asked -ℤ raised y d target)
   chain_of_asked settled low =
@@ -87,28 +87,29 @@ module _ (n : ℕ) (edges : List Assumption) (y d v t : ℕ → ℕ) (turn targe
         let j = cut_le (d asked) (d target) in omega (arith, ints, a, i, j)),
   )
 
-module _ (n : ℕ) (edges : List Assumption) (ys : List ℕ) (s : Search) (target limit asked enough : ℕ) (b : IsBounds n edges ys) (f : IsSearched n edges ys s target limit asked enough) (inside : asked < n) where
-  pub found_all : enough ≤ limit → limit ≤ get_or s.distances.items asked 0 → IsFound n edges (of ys) (of s.distances.items) target limit
-  found_all few far =
+module _ (n : ℕ) (edges : List Assumption) (ys : List ℕ) (s : Search) (target limit stop asked enough : ℕ) (b : IsBounds n edges ys) (f : IsSearched n edges ys s target limit stop asked enough) (inside : asked < n) where
+  pub found_all : stop ≡ limit → enough ≤ limit → limit ≤ get_or s.distances.items asked 0 → IsFound n edges (of ys) (of s.distances.items) target limit
+  found_all whole few far =
       let r = f.running in
+      let all = all_settled n edges (of ys) (of s.distances.items) (of s.vias.items) (of s.turns.items) r.0 target limit r.1.0 asked (are_met n edges ys b) r.1.1 inside stop enough (omega (arith, whole)) few f.ended far in
       found n edges (of ys) (of s.distances.items) (of s.vias.items) (of s.turns.items) r.0 target limit r.1.0 (are_met n edges ys b) r.1.1
-      (all_settled n edges (of ys) (of s.distances.items) (of s.vias.items) (of s.turns.items) r.0 target limit r.1.0 asked (are_met n edges ys b) r.1.1 inside enough few f.ended far)
+      (λ l h. elim (all l h) [ inl lt ↦ inl lt | inr le ↦ inr (omega (arith, whole, le)) ])
 
-  pub settled_asked : enough ≡ 0 → get_or s.distances.items asked 0 < limit → get_or s.turns.items asked 0 < n
-  settled_asked none low =
+  pub settled_asked : stop ≡ limit → enough ≡ 0 → get_or s.distances.items asked 0 < limit → get_or s.turns.items asked 0 < n
+  settled_asked whole none low =
       let r = f.running in
-      asked_settled n edges (of ys) (of s.distances.items) (of s.vias.items) (of s.turns.items) r.0 target limit r.1.0 asked (are_met n edges ys b) r.1.1 inside enough none f.ended low
+      asked_settled n edges (of ys) (of s.distances.items) (of s.vias.items) (of s.turns.items) r.0 target limit r.1.0 asked (are_met n edges ys b) r.1.1 inside stop enough none f.ended (omega (arith, whole, low))
 
-  pub least_of_way : enough ≡ 0 → get_or s.distances.items asked 0 < limit
+  pub least_of_way : stop ≡ limit → enough ≡ 0 → get_or s.distances.items asked 0 < limit
       → HasChain n edges asked target (raised (of ys) (of s.distances.items) asked -ℤ raised (of ys) (of s.distances.items) target)
       → IsLeast edges asked target (Some (raised (of ys) (of s.distances.items) asked -ℤ raised (of ys) (of s.distances.items) target))
-  least_of_way none low way =
+  least_of_way whole none low way =
       let r = f.running in
-      least_cut n edges (of ys) (of s.distances.items) (of s.vias.items) (of s.turns.items) r.0 target limit r.1.0 asked (are_met n edges ys b) r.1.1 inside (settled_asked none low) way
+      least_cut n edges (of ys) (of s.distances.items) (of s.vias.items) (of s.turns.items) r.0 target limit r.1.0 asked (are_met n edges ys b) r.1.1 inside (settled_asked whole none low) way
 
-  pub least_found : enough ≡ 0 → get_or s.distances.items asked 0 < limit
+  pub least_found : stop ≡ limit → enough ≡ 0 → get_or s.distances.items asked 0 < limit
       → IsLeast edges asked target (Some (raised (of ys) (of s.distances.items) asked -ℤ raised (of ys) (of s.distances.items) target))
-  least_found none low =
+  least_found whole none low =
       let r = f.running in
-      least_of_way none low
-      (chain_of_asked n edges (of ys) (of s.distances.items) (of s.vias.items) (of s.turns.items) r.0 target limit r.1.0 asked (are_met n edges ys b) r.1.1 inside (settled_asked none low) low)
+      least_of_way whole none low
+      (chain_of_asked n edges (of ys) (of s.distances.items) (of s.vias.items) (of s.turns.items) r.0 target limit r.1.0 asked (are_met n edges ys b) r.1.1 inside (settled_asked whole none low) low)

@@ -7,7 +7,7 @@ use Rattle.refutation.specs.Path.{Meets, MeetsAll, at, assumption}
 use Rattle.diff_bounds.specs.declared.search.Search.{Search}
 use Rattle.diff_bounds.specs.Bounds.{more, integers, IsSolution, Implies}
 use Rattle.diff_bounds.specs.Pressing.{IsNear, AreNear}
-use Rattle.diff_bounds.specs.Search.{of, raised, AreMet, IsFound, IsEnded, IsRunning, IsBounds, IsSearched}
+use Rattle.diff_bounds.specs.Search.{of, AreMet, IsEnded, IsRunning, IsBounds, IsSearched}
 use Rattle.diff_bounds.proofs.Ending.{met_at, walk}
 use Rattle.diff_bounds.proofs.Held.{meets_more}
 use Rattle.diff_bounds.proofs.Least.{chain_shows}
@@ -41,17 +41,12 @@ pub solves_fewer : (n : ℕ) (edges others : List Assumption) (ys : List ℕ) �
 solves_fewer n edges others ys s = record { long = s.long; meets = meets_fewer (integers ys) edges others s.meets; zero = s.zero; small = s.small }
 
 -- a chain below what the kept numbers leave shows the assumption
-pub held : (n : ℕ) (edges : List Assumption) (ys : List ℕ) (s : Search) (i j room enough : ℕ) (w : ℤ) → IsBounds n edges ys → IsSearched n edges ys s j room i enough → i < n
+pub held : (n : ℕ) (edges : List Assumption) (ys : List ℕ) (s : Search) (i j room stop enough : ℕ) (w : ℤ) → IsBounds n edges ys → IsSearched n edges ys s j room stop i enough → i < n
     → get_or s.distances.items i 0 < room → ((pos (get_or ys i 0) -ℤ pos (get_or ys j 0)) +ℤ pos room) ≡ (w +ℤ pos 1) → Implies edges i j w
-held n edges ys s i j room enough w b f hi lt is x m =
+held n edges ys s i j room stop enough w b f hi lt is x m =
     let r = f.running in
     let chain = walk n edges (of ys) (of s.distances.items) (of s.vias.items) (of s.turns.items) r.0 j room r.1.0 0 (get_or s.turns.items i 0) i (are_met n edges ys b) r.1.1 hi lt (omega arith) in
     let a = chain_shows x edges i j chain.0 m chain.1 in let sum = chain.2 in let z = r.1.1.here in omega (arith, ints, a, sum, z, is, lt)
-
--- where there is none, the raised numbers are a solution that breaks it
-pub not_held : (n : ℕ) (edges : List Assumption) (y d : ℕ → ℕ) (i j room : ℕ) (w : ℤ) → IsFound n edges y d j room → room ≤ d i
-    → ((pos (y i) -ℤ pos (y j)) +ℤ pos room) ≡ (w +ℤ pos 1) → Implies edges i j w → ⊥
-not_held n edges y d i j room w f le is all = let a = all (raised y d) f.meets in let z = f.here in omega (arith, ints, a, z, is, le)
 
 -- numbers that break it, and meet the others, show that it isn't implied
 pub broken : (edges : List Assumption) (ys : List ℕ) (i j need : ℕ) (w : ℤ) → MeetsAll (integers ys) edges
@@ -83,15 +78,15 @@ chain_is none all rest p r = r ∙ ap (λ none. none ++ rest) p
 pub if_none : {A : Type 0} {P : Type 0} (o : Option A) → o ≡ None → IfNone o P → P
 if_none {A} {P} o q h = subst (λ (o : Option A). IfNone o P) q h
 
-pub searched : (n : ℕ) (edges : List Assumption) (ys : List ℕ) (s : Search) (ds vs ts xs : List ℕ) (target limit asked enough : ℕ)
+pub searched : (n : ℕ) (edges : List Assumption) (ys : List ℕ) (s : Search) (ds vs ts xs : List ℕ) (target limit stop asked enough : ℕ)
     → s.distances.items ≡ ds → s.vias.items ≡ vs → s.turns.items ≡ ts → s.reached.items ≡ xs
     → length ds ≡ n → length vs ≡ n → length ts ≡ n → length xs ≡ n
-    → IsEnded n (of ds) (of ts) limit asked enough
+    → IsEnded n (of ds) (of ts) stop asked enough
     → (turn : ℕ) × ((k : ℕ) × IsRunning n edges (of ys) (of ds) (of vs) (of ts) turn target limit k 0)
-    → IsSearched n edges ys s target limit asked enough
-searched n edges ys s ds vs ts xs target limit asked enough p q r o long_d long_v long_t long_x ended running = record {
+    → IsSearched n edges ys s target limit stop asked enough
+searched n edges ys s ds vs ts xs target limit stop asked enough p q r o long_d long_v long_t long_x ended running = record {
   sized = record { distances = ap length p ∙ long_d; vias = ap length q ∙ long_v; turns = ap length r ∙ long_t; reached = ap length o ∙ long_x };
-  ended = subst (λ ds. IsEnded n (of ds) (of s.turns.items) limit asked enough) (sym p) (subst (λ ts. IsEnded n (of ds) (of ts) limit asked enough) (sym r) ended);
+  ended = subst (λ ds. IsEnded n (of ds) (of s.turns.items) stop asked enough) (sym p) (subst (λ ts. IsEnded n (of ds) (of ts) stop asked enough) (sym r) ended);
   running = (
     running.0,
     (
@@ -101,4 +96,14 @@ searched n edges ys s ds vs ts xs target limit asked enough p q r o long_d long_
           (subst (λ ts. IsRunning n edges (of ys) (of ds) (of vs) (of ts) running.0 target limit running.1.0 0) (sym r) running.1.1)),
     ),
   );
+}
+
+-- numbers that are all 0 are a solution of no assumptions
+pub no_bounds : (n : ℕ) (ys : List ℕ) → 0 < n → n ≤ 64 → length ys ≡ n → ((k : ℕ) → k < n → get_or ys k 0 ≡ 0) → IsBounds n [] ys
+no_bounds n ys some few long zeros = record {
+  some = some;
+  few = few;
+  numbers = omega arith;
+  near = tt;
+  solution = record { long = long; meets = tt; zero = (0, some, zeros 0 some); small = λ k h. let z = zeros k h in omega (arith, z) };
 }

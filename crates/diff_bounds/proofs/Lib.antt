@@ -9,5 +9,6 @@ pub mod Listed
 pub mod Opening
 pub mod Kept
 pub mod Early
+pub mod Lifting
 pub mod Answering
 pub mod Cycles

@@ -21,11 +21,11 @@ unset_lowers n (t ∷ ts) (u ∷ us) long low =
     let b = unset_lowers n ts us (omega (arith, long)) (λ l. low (suc l)) in omega (arith, a, b)
 
 -- nothing is reached yet
-pub none_open : (n : ℕ) (ds : List ℕ) (t : ℕ → ℕ) (limit : ℕ) (xs : List ℕ) → length ds ≡ n → ((l : ℕ) → l < n → get_or ds l 0 ≡ limit) → IsOpen n ds t limit xs 0
+pub none_open : (n : ℕ) (ds : List ℕ) (t : ℕ → ℕ) (limit : ℕ) (xs : List ℕ) → length ds ≡ n → ((l : ℕ) → l < n → limit ≤ get_or ds l 0) → IsOpen n ds t limit xs 0
 none_open n ds t limit xs long far = record {
   room = let a = unset_all limit ds in omega (arith, a, long);
   inside = λ i h. absurd (omega (arith, h));
-  has = λ l h. let e = far l h in inr (inl (omega (arith, e)));
+  has = λ l h. inr (inl (far l h));
 }
 
 -- there is room for an input that is not reached

@@ -223,7 +223,7 @@ relaxed n edges y t ds vs ds' vs' turn target limit k e met r settled he to (inr
 
 -- those between the last before e that is listed for k, and e, are held or lead elsewhere
 pub passed : (n : ℕ) (edges : List Assumption) (y d v t : ℕ → ℕ) (turn target limit k e h : ℕ) → IsRunning n edges y d v t turn target limit k e
-    → IsLast edges k e h → IsRunning n edges y d v t turn target limit k h
+    → IsLast (λ a. a.to) edges k e h → IsRunning n edges y d v t turn target limit k h
 passed n edges y d v t turn target limit k e h r last = skip n edges y d v t turn target limit k e h r (λ f le lt to. inr (last.others f le lt to))
 
 abbrev pub marked : ℕ → ℕ → ℕ
@@ -284,3 +284,18 @@ pub unset_some : (n : ℕ) (ts : List ℕ) (k : ℕ) → k < length ts → n ≤
 unset_some n [] k h was = absurd (omega arith)
 unset_some n (t ∷ ts) zero h was = let a = marked_unset n t was in omega (arith, a)
 unset_some n (t ∷ ts) (suc k) h was = let a = unset_some n ts k (omega arith) was in omega (arith, a)
+
+-- the end of the assumption is not lowered
+pub end_same : (n : ℕ) (edges : List Assumption) (y : ℕ → ℕ) (ds vs ds' vs' : List ℕ) (e k : ℕ) → AreMet n edges y → e < length edges → (at edges e).to ≡ k
+    → IsRelaxed y ds vs ds' vs' (at edges e) e → of ds' k ≡ of ds k
+end_same n edges y ds vs ds' vs' e k met he to (inl same) = ap (λ ds. of ds k) same.0
+end_same n edges y ds vs ds' vs' e k met he to (inr low) = elim (low.others k) [
+  | inl q ↦
+      let f : (at edges e).from ≡ (at edges e).to = sym q ∙ sym to in
+      let yf = ap y f in
+      let df = ap (of ds) f in
+      let m = (met e he).1.1.0 in
+      let x = low.exact in
+      let s = low.less in absurd (omega (arith, ints, m, x, s, yf, df))
+  | inr s ↦ s.0
+]

@@ -2,6 +2,7 @@
 use Rattle.std.specs.Prelude.{◌≡◌, ℕ, ℤ, pos, ◌<◌, ◌≤◌, ◌+◌, ◌+ℤ◌, ◌-ℤ◌, ◌≤ℤ◌, true, List, [], ◌∷◌, length, take, get_or, nat_lt, if◌then◌else◌, ◌⊎◌}
 use Rattle.refutation.specs.declared.assumption.Assumption.{Assumption}
 use Rattle.refutation.specs.Path.{Meets, MeetsAll, at, runs, sum_of}
+use Rattle.diff_bounds.specs.declared.ends.ByInput.{ByInput}
 use Rattle.diff_bounds.specs.declared.ends.Ends.{Ends}
 use Rattle.diff_bounds.specs.declared.search.Search.{Search}
 use Rattle.diff_bounds.specs.Bounds.{IsSolution, Implies}
@@ -72,19 +73,28 @@ pub record IsLowered (y d v d' v' : ℕ → ℕ) (edge : Assumption) (e : ℕ) :
 abbrev pub IsRelaxed : (ℕ → ℕ) → List ℕ → List ℕ → List ℕ → List ℕ → Assumption → ℕ → Type 0
 IsRelaxed y ds vs ds' vs' edge e = ((ds' ≡ ds) × ((vs' ≡ vs) × Meets (raised y (of ds)) edge)) ⊎ IsLowered y (of ds) (of vs) (of ds') (of vs') edge e
 
--- h is one more than the number of the last assumption before number e that is listed for k, 0 where none is: each after it
--- that leads to k is implied by those before it
-pub record IsLast (edges : List Assumption) (k e h : ℕ) : Type 0 where
+-- h is one more than the number of the last assumption before number e that is listed for k, which is its end, 0 where none
+-- is: each after it of which k is the end is implied by those before it
+pub record IsLast (end : Assumption → ℕ) (edges : List Assumption) (k e h : ℕ) : Type 0 where
   pub before : h ≤ e
-  pub leads : (f : ℕ) → f + 1 ≡ h → (at edges f).to ≡ k
-  pub others : (f : ℕ) → h ≤ f → f < e → (at edges f).to ≡ k → IsHeld edges f
+  pub leads : (f : ℕ) → f + 1 ≡ h → end (at edges f) ≡ k
+  pub others : (f : ℕ) → h ≤ f → f < e → end (at edges f) ≡ k → IsHeld edges f
 
 -- for each of n inputs the last assumption that is listed for it, and for each assumption the one listed before it for the same input
+pub record IsByInput (end : Assumption → ℕ) (n : ℕ) (edges : List Assumption) (list : ByInput) : Type 0 where
+  pub inputs : length list.lasts.items ≡ n
+  pub numbers : length list.earlier.items ≡ length edges
+  pub lasts : (k : ℕ) → k < n → IsLast end edges k (length edges) (get_or list.lasts.items k 0)
+  pub earlier : (e : ℕ) → e < length edges → IsLast end edges (end (at edges e)) e (get_or list.earlier.items e 0)
+
+-- the assumptions by the input that each leads to, and by the input that each begins at
 pub record IsListed (n : ℕ) (edges : List Assumption) (ends : Ends) : Type 0 where
-  pub inputs : length ends.lasts.items ≡ n
-  pub numbers : length ends.earlier.items ≡ length edges
-  pub lasts : (k : ℕ) → k < n → IsLast edges k (length edges) (get_or ends.lasts.items k 0)
-  pub earlier : (e : ℕ) → e < length edges → IsLast edges (at edges e).to e (get_or ends.earlier.items e 0)
+  pub to : IsByInput (λ a. a.to) n edges ends.to
+  pub from : IsByInput (λ a. a.from) n edges ends.from
+
+-- for each assumption that begins at k the difference of y can grow by the lead, or those before it imply it
+abbrev pub IsLead : List Assumption → (ℕ → ℕ) → ℕ → ℕ → Type 0
+IsLead edges y k lead = (f : ℕ) → f < length edges → (at edges f).from ≡ k → (((pos (y k) +ℤ pos lead) -ℤ pos (y (at edges f).to)) ≤ℤ (at edges f).bound) ⊎ IsHeld edges f
 
 -- the first numbers of the list are inputs, and each input that is reached and not settled is among them; there is room for all that are not reached
 pub record IsOpen (n : ℕ) (ds : List ℕ) (t : ℕ → ℕ) (limit : ℕ) (reached : List ℕ) (count : ℕ) : Type 0 where
@@ -113,12 +123,12 @@ pub record IsBounds (n : ℕ) (edges : List Assumption) (ys : List ℕ) : Type 0
   pub near : AreNear n edges
   pub solution : IsSolution n edges ys
 
--- a search is at its end: the input asked for is so near as is enough, or it is settled, or each input below the limit is settled
+-- a search is at its end: the input asked for is so near as is enough, or it is settled, or each input that is nearer than the stop is settled
 abbrev pub IsEnded : ℕ → (ℕ → ℕ) → (ℕ → ℕ) → ℕ → ℕ → ℕ → Type 0
-IsEnded n d t limit asked enough = (d asked < enough) ⊎ ((t asked < n) ⊎ ((l : ℕ) → l < n → (t l < n) ⊎ (limit ≤ d l)))
+IsEnded n d t stop asked enough = (d asked < enough) ⊎ ((t asked < n) ⊎ ((l : ℕ) → l < n → (t l < n) ⊎ (stop ≤ d l)))
 
 -- a search of the chains to the target is done
-pub record IsSearched (n : ℕ) (edges : List Assumption) (ys : List ℕ) (s : Search) (target limit asked enough : ℕ) : Type 0 where
+pub record IsSearched (n : ℕ) (edges : List Assumption) (ys : List ℕ) (s : Search) (target limit stop asked enough : ℕ) : Type 0 where
   pub sized : IsSized n s
-  pub ended : IsEnded n (of s.distances.items) (of s.turns.items) limit asked enough
+  pub ended : IsEnded n (of s.distances.items) (of s.turns.items) stop asked enough
   pub running : (turn : ℕ) × ((k : ℕ) × IsRunning n edges (of ys) (of s.distances.items) (of s.vias.items) (of s.turns.items) turn target limit k 0)

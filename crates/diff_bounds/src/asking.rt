@@ -47,6 +47,7 @@ pub(crate) fn least(
     let question = Question {
         target: j,
         limit: FAR,
+        stop: FAR,
         asked: i,
         enough: 0,
     };
@@ -83,6 +84,7 @@ pub(crate) fn shortest(
     let question = Question {
         target: j,
         limit: FAR,
+        stop: FAR,
         asked: i,
         enough: 0,
     };

@@ -18,7 +18,8 @@ pub(crate) fn follow(
     requires asked { question.asked < n }
     requires low { get_or search.now.distances.items question.asked 0 < question.limit }
     requires whole { question.enough ≡ 0 }
-    requires searched { IsSearched n edges.now kept.now search.now question.target question.limit question.asked question.enough }
+    requires all { question.stop ≡ question.limit }
+    requires searched { IsSearched n edges.now kept.now search.now question.target question.limit question.stop question.asked question.enough }
     ensures { OnOk result ((way : HasChain n edges.now question.asked question.target (raised (of kept.now) (of search.now.distances.items) question.asked -ℤ raised (of kept.now) (of search.now.distances.items) question.target))
         × (chain.new ≡ chain.old ++ way.chain)) }
 {

@@ -8,6 +8,7 @@ ghost use Rattle.diff_bounds.specs.Search.{IsSized, IsBounds, IsListed};
 use crate::added::Added;
 use crate::ends::Ends;
 use crate::following::follow;
+use crate::leading::{lead, slack};
 use crate::pressing::press;
 use crate::search::{Question, Search};
 use refutation::{Assumption, Chain};
@@ -41,9 +42,7 @@ fn room(edge: Assumption, kept: &[u64]) -> u64
     ensures room { ((pos (get_or kept.now edge.from 0) -ℤ pos (get_or kept.now edge.to 0)) +ℤ pos result) ≡ (edge.bound +ℤ pos 1) }
     ensures small { result ≤ 4000000000 }
 {
-    let start = kept[edge.from as usize] as i64;
-    let end = kept[edge.to as usize] as i64;
-    (edge.bound - (start - end) + 1) as u64
+    slack(edge, kept) + 1
 }
 
 /// Raises each number by its distance.
@@ -80,6 +79,7 @@ fn is_implied(
     let question = Question {
         target: edge.to,
         limit: room,
+        stop: room - lead(edges, ends, kept, edge.from, n, room),
         asked: edge.from,
         enough: room,
     };
@@ -114,6 +114,7 @@ fn mend(
     let question = Question {
         target: edge.from,
         limit: by,
+        stop: by,
         asked: edge.to,
         enough: 0,
     };
@@ -172,6 +173,7 @@ pub(crate) fn keep(
     n: u32,
 ) -> Result<(), NoMemory>
     requires listed { IsListed n assumptions.old.items ends.old }
+    requires from { edge.from < n }
     requires to { edge.to < n }
     requires room { length assumptions.old.items < 65536 }
     requires verdict { IsVerdict assumptions.old.items edge.from edge.to edge.bound added.now }

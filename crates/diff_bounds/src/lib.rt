@@ -16,6 +16,7 @@ mod ends;
 mod following;
 mod judging;
 mod laws;
+mod leading;
 mod listing;
 mod pressing;
 mod search;

@@ -1,9 +1,11 @@
 /// What is asked of a search: how far the number of `asked` has to be raised for the sake of the target's. It looks for
-/// distances below the limit, and may end as soon as it has found one below what is enough.
+/// distances below the limit, settles no input that is as far as `stop` or farther, and may end as soon as it has found a
+/// distance below what is enough.
 #[derive(Clone, Copy)]
 pub(crate) struct Question {
     pub target: u32,
     pub limit: u64,
+    pub stop: u64,
     pub asked: u32,
     pub enough: u64,
 }

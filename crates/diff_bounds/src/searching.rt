@@ -56,12 +56,12 @@ fn next(
     requires turns { length turns.now ≡ n }
     requires reached { length reached.now ≡ n }
     requires asked { question.asked < n }
-    requires is_open { IsOpen n distances.now (of turns.now) question.limit reached.now count }
+    requires is_open { IsOpen n distances.now (of turns.now) question.stop reached.now count }
     ensures there { IfSome result (λ place. place < count) }
     ensures unset { IfSome result (λ place. n ≤ get_or turns.now (get_or reached.now place 0) 0) }
-    ensures below { IfSome result (λ place. get_or distances.now (get_or reached.now place 0) 0 < question.limit) }
+    ensures below { IfSome result (λ place. get_or distances.now (get_or reached.now place 0) 0 < question.stop) }
     ensures nearest { IfSome result (λ place. (l : ℕ) → l < n → (get_or turns.now l 0 < n) ⊎ (get_or distances.now (get_or reached.now place 0) 0 ≤ get_or distances.now l 0)) }
-    ensures ended { IfNone result (IsEnded n (of distances.now) (of turns.now) question.limit question.asked question.enough) }
+    ensures ended { IfNone result (IsEnded n (of distances.now) (of turns.now) question.stop question.asked question.enough) }
 {
     if distances[question.asked as usize] < question.enough {
         return None;
@@ -69,7 +69,7 @@ fn next(
     if turns[question.asked as usize] < n {
         return None;
     }
-    nearest(reached, count, distances, turns, n, question.limit)
+    nearest(reached, count, distances, turns, n, question.stop)
 }
 
 /// Writes a number at a place.
@@ -90,40 +90,17 @@ fn put_distance(distances: &mut [u64], k: u32, distance: u64)
     distances[k as usize] = distance;
 }
 
-/// How far the beginning of an edge need be raised for the sake of its end.
-fn reach(edge: Assumption, kept: &[u64], distances: &[u64]) -> u64
+/// How far the beginning of an edge need be raised for the sake of its end, which is raised to a height.
+fn reach(edge: Assumption, height: u64, kept: &[u64]) -> u64
     requires from { edge.from < length kept.now }
-    requires to { edge.to < length kept.now }
-    requires long { length distances.now ≡ length kept.now }
-    requires met { (pos (get_or kept.now edge.from 0) -ℤ pos (get_or kept.now edge.to 0)) ≤ℤ edge.bound }
+    requires met { pos (get_or kept.now edge.from 0) ≤ℤ (edge.bound +ℤ pos height) }
     requires near { edge.bound ≤ℤ pos 1000001 }
     requires small { (k : ℕ) → k < length kept.now → get_or kept.now k 0 ≤ 4000000000 }
-    requires room { (k : ℕ) → k < length kept.now → get_or distances.now k 0 ≤ 4000000000 }
-    ensures { (pos (get_or kept.now edge.from 0) +ℤ pos result) ≡ (edge.bound +ℤ (pos (get_or kept.now edge.to 0) +ℤ pos (get_or distances.now edge.to 0))) }
+    requires room { height ≤ 8000000000 }
+    ensures { (pos (get_or kept.now edge.from 0) +ℤ pos result) ≡ (edge.bound +ℤ pos height) }
 {
     let start = kept[edge.from as usize] as i64;
-    let end = kept[edge.to as usize] as i64;
-    let distance = distances[edge.to as usize] as i64;
-    (end + distance + edge.bound - start) as u64
-}
-
-/// Looks at one edge: lowers its beginning to what it allows.
-fn relax(edge: Assumption, number: u32, kept: &[u64], distances: &mut [u64], vias: &mut [u32])
-    requires from { edge.from < length kept.now }
-    requires to { edge.to < length kept.now }
-    requires long { length distances.now ≡ length kept.now }
-    requires vias { length vias.now ≡ length kept.now }
-    requires met { (pos (get_or kept.now edge.from 0) -ℤ pos (get_or kept.now edge.to 0)) ≤ℤ edge.bound }
-    requires near { edge.bound ≤ℤ pos 1000001 }
-    requires small { (k : ℕ) → k < length kept.now → get_or kept.now k 0 ≤ 4000000000 }
-    requires room { (k : ℕ) → k < length kept.now → get_or distances.now k 0 ≤ 4000000000 }
-    ensures { IsRelaxed (of kept.now) distances.old vias.old distances.new vias.new edge number }
-{
-    let reached = reach(edge, kept, distances);
-    if reached < distances[edge.from as usize] {
-        put_distance(distances, edge.from, reached);
-        put_number(vias, edge.from, number);
-    }
+    (height as i64 + edge.bound - start) as u64
 }
 
 /// Puts an input at the end of those that are reached if its distance fell below the limit; gives how many they are.
@@ -139,10 +116,11 @@ fn open_input(reached: &mut [u32], count: u32, k: u32, before: u64, after: u64, 
     count + 1
 }
 
-/// Looks at one edge, and opens its beginning if that is reached now; gives how many are open.
+/// Looks at one edge: lowers its beginning to what it allows, and opens it if it is reached now; gives how many are open.
 fn visit(
     edge: Assumption,
     number: u32,
+    height: u64,
     limit: u64,
     kept: &[u64],
     distances: &mut [u64],
@@ -162,14 +140,19 @@ fn visit(
     requires small { (k : ℕ) → k < length kept.now → get_or kept.now k 0 ≤ 4000000000 }
     requires room { (k : ℕ) → k < length kept.now → get_or distances.now k 0 ≤ 4000000000 }
     requires is_open { IsOpen (length kept.now) distances.now (of turns.now) limit reached.now count }
+    requires height { height ≡ get_or kept.now edge.to 0 + get_or distances.now edge.to 0 }
     ensures relaxed { IsRelaxed (of kept.now) distances.old vias.old distances.new vias.new edge number }
     ensures is_open { IsOpen (length kept.now) distances.new (of turns.now) limit reached.new result }
 {
     let _ = turns;
     let before = distances[edge.from as usize];
-    relax(edge, number, kept, distances, vias);
-    let after = distances[edge.from as usize];
-    open_input(reached, count, edge.from, before, after, limit)
+    let distance = reach(edge, height, kept);
+    if distance >= before {
+        return count;
+    }
+    put_distance(distances, edge.from, distance);
+    put_number(vias, edge.from, number);
+    open_input(reached, count, edge.from, before, distance, limit)
 }
 
 /// Looks at each edge that leads to k, the last first; gives how many inputs are open.
@@ -202,13 +185,15 @@ fn relax_into(
         → IsRunning (length kept.now) edges.now (of kept.now) (of distances.new) (of vias.new) (of turns.now) turn target limit k 0 }
 {
     let mut total = count;
-    let earlier = ends.earlier.as_slice();
-    let mut left = ends.lasts.as_slice()[k as usize];
+    let earlier = ends.to.earlier.as_slice();
+    let mut left = ends.to.lasts.as_slice()[k as usize];
+    let height = kept[k as usize] + distances[k as usize];
     while left > 0 {
         let number = left - 1;
         total = visit(
             edges[number as usize],
             number,
+            height,
             limit,
             kept,
             distances,
@@ -261,14 +246,15 @@ fn settle(
     requires target { question.target < n }
     requires asked { question.asked < n }
     requires limit { question.limit ≤ 4000000000 }
-    ensures ended { IsEnded n (of distances.new) (of turns.new) question.limit question.asked question.enough }
+    requires stop { question.stop ≤ question.limit }
+    ensures ended { IsEnded n (of distances.new) (of turns.new) question.stop question.asked question.enough }
     ensures running { (turn : ℕ) × ((k : ℕ) × IsRunning n edges.now (of kept.now) (of distances.new) (of vias.new) (of turns.new) turn question.target question.limit k 0) }
 {
     let limit = question.limit;
     fill_distances(distances, limit);
     fill_turns(turns, n);
     put_distance(distances, question.target, 0);
-    let mut count = open_input(reached, 0, question.target, limit, 0, limit);
+    let mut count = open_input(reached, 0, question.target, limit, 0, question.stop);
     let mut turn: u32 = 0;
     while let Some(place) = next(reached, count, distances, turns, n, question) {
         let k = reached[place as usize];
@@ -285,7 +271,7 @@ fn settle(
             turns,
             reached,
             count - 1,
-            limit,
+            question.stop,
         );
         turn += 1;
     }
@@ -327,7 +313,8 @@ impl Search {
         requires target { question.target < n }
         requires asked { question.asked < n }
         requires limit { question.limit ≤ 4000000000 }
-        ensures { IsSearched n edges.now kept.now self.new question.target question.limit question.asked question.enough }
+        requires stop { question.stop ≤ question.limit }
+        ensures { IsSearched n edges.now kept.now self.new question.target question.limit question.stop question.asked question.enough }
     {
         settle(
             edges,

@@ -1,4 +1,4 @@
-use Rattle.std.proofs.Common.{◌≡◌, ℤ, arith, subst, Some, to_z, of_z, w64}
+use Rattle.std.proofs.Common.{◌≡◌, ℤ, arith, refl, subst, Some, to_z, of_z, w64}
 use Rattle.std.specs.Prelude.{◌-ℤ◌}
 use Rattle.std.proofs.lemmas.Int.{ints}
 use Rattle.diff_bounds.specs.Bounds.{IsLeast}
@@ -25,7 +25,7 @@ returns-then-distance-lt-FAR-clause-least c =
     let yj = c.requires.bounds.solution.small j c.requires.j_in in
     omega (arith, ints, e, z, yi, yj, low, at) in
     subst (λ (w : ℤ). IsLeast edges i j (Some w)) is
-    (least_found n edges c.args.kept.now c.run.new.self j 200000000 i 0 c.requires.bounds c.run.ensures c.requires.i_in (omega arith) (omega (arith, low, at)))
+    (least_found n edges c.args.kept.now c.run.new.self j 200000000 200000000 i 0 c.requires.bounds c.run.ensures c.requires.i_in refl (omega arith) (omega (arith, low, at)))
 
 pub returns-else-distance-lt-FAR-clause-least : goal.returns-else-distance-lt-FAR-clause-least
 returns-else-distance-lt-FAR-clause-least c =
@@ -33,5 +33,5 @@ returns-else-distance-lt-FAR-clause-least c =
     let at = c.distance-distance.ensures in
     least_none c.args.n c.args.edges.now (of c.args.kept.now) (of c.run.new.self.distances.items) c.args.i c.args.j 200000000
     (are_met c.args.n c.args.edges.now c.args.kept.now c.requires.bounds) c.requires.bounds.few c.requires.bounds.solution.small c.requires.j_in (omega arith)
-    (found_all c.args.n c.args.edges.now c.args.kept.now c.run.new.self c.args.j 200000000 c.args.i 0 c.requires.bounds c.run.ensures c.requires.i_in (omega arith) (omega (arith, high, at)))
+    (found_all c.args.n c.args.edges.now c.args.kept.now c.run.new.self c.args.j 200000000 200000000 c.args.i 0 c.requires.bounds c.run.ensures c.requires.i_in refl (omega arith) (omega (arith, high, at)))
     (omega (arith, high, at))

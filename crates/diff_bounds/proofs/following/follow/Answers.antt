@@ -38,5 +38,5 @@ pub returns : goal.returns
 returns c =
     way_ends c.args.n c.args.edges.now (of c.args.kept.now) (of c.args.search.now.distances.items) (of c.args.search.now.turns.items) c.args.chain.now c.loop-at.chain c.args.question.asked
     c.loop-at.at c.args.question.target c.loop-at-test.false
-    (settled_asked c.args.n c.args.edges.now c.args.kept.now c.args.search.now c.args.question.target c.args.question.limit c.args.question.asked c.args.question.enough c.requires.bounds c.requires.searched c.requires.asked c.requires.whole c.requires.low)
+    (settled_asked c.args.n c.args.edges.now c.args.kept.now c.args.search.now c.args.question.target c.args.question.limit c.args.question.stop c.args.question.asked c.args.question.enough c.requires.bounds c.requires.searched c.requires.asked c.requires.all c.requires.whole c.requires.low)
     c.loop-at.invariant.way

@@ -1,4 +1,4 @@
-use Rattle.std.proofs.Common.{◌≡◌, ◌+◌, [], ◌∷◌, ◌++◌, length, get_or, arith, subst, sym, ap, ◌∙◌, true}
+use Rattle.std.proofs.Common.{◌≡◌, ◌+◌, [], ◌∷◌, ◌++◌, length, get_or, arith, refl, subst, sym, ap, ◌∙◌, true}
 use Rattle.refutation.specs.Path.{is_negative}
 use Rattle.diff_bounds.specs.Search.{of}
 use Rattle.diff_bounds.proofs.Least.{negative, mended_list}
@@ -29,7 +29,7 @@ returns-clause-mended c =
     let value = c.deref.ensures.value in
     let met = mended_list n edges (of c.args.kept.now) d c.raise.new.kept c.args.edge.from c.args.edge.to c.args.by c.args.edge.bound
     (are_met n edges c.args.kept.now c.requires.bounds)
-    (found_all n edges c.args.kept.now c.run.new.self c.args.edge.from c.args.by c.args.edge.to 0 c.requires.bounds c.run.ensures c.requires.near.to (omega arith) (omega (arith, high, at))) c.requires.by (omega (arith, high, at)) c.requires.near.from c.requires.near.to
+    (found_all n edges c.args.kept.now c.run.new.self c.args.edge.from c.args.by c.args.by c.args.edge.to 0 c.requires.bounds c.run.ensures c.requires.near.to refl (omega arith) (omega (arith, high, at))) c.requires.by (omega (arith, high, at)) c.requires.near.from c.requires.near.to
     (λ k h. c.raise.ensures k (omega (arith, h, long)) ∙ ap (λ xs. get_or c.args.kept.now k 0 + get_or xs k 0) value) in
     pressed_solution n edges c.args.edge c.raise.new.kept c.press.new.numbers (c.raise.auto.kept ∙ long) (c.press.auto.numbers ∙ c.raise.auto.kept ∙ long)
     c.requires.bounds.near c.requires.near met c.press.ensures.zero c.press.ensures.small c.press.ensures.keeps

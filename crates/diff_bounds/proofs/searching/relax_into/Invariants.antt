@@ -8,6 +8,7 @@ invariant-loop-left l =
     record {
       within : l.left ≤ length l.edges;
       leads : (f : ℕ) → f + 1 ≡ l.left → (at l.edges f).to ≡ l.k;
+      height : l.height ≡ get_or l.kept l.k 0 + get_or l.distances l.k 0;
       room : (k : ℕ) → k < length l.kept → get_or l.distances k 0 ≤ 4000000000;
       is_open : IsOpen (length l.kept) l.distances (of l.turns) l.limit l.reached l.total;
       keeps : (turn target limit : ℕ) → IsRunning (length l.kept) l.edges (of l.kept) (of l.fn.distances) (of l.fn.vias) (of l.turns) turn target limit l.k (length l.edges)

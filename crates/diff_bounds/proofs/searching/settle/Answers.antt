@@ -19,11 +19,11 @@ loop-place-init c =
           let long : length ds0 ≡ n = c.fill_distances.auto.distances ∙ c.requires.distances in
           let e = c.requires.distances in
           let far : get_or ds0 c.args.question.target 0 ≡ c.args.question.limit = let h = c.requires.target in c.fill_distances.ensures c.args.question.target (omega (arith, h, e)) in
-          opened n ds0 ds (of ts) c.args.question.limit c.args.reached.now c.open_input-count.new.reached 0 c.open_input-count.result c.args.question.target
-          (none_open n ds0 (of ts) c.args.question.limit c.args.reached.now long (λ l h. c.fill_distances.ensures l (omega (arith, h, e))))
+          opened n ds0 ds (of ts) c.args.question.stop c.args.reached.now c.open_input-count.new.reached 0 c.open_input-count.result c.args.question.target
+          (none_open n ds0 (of ts) c.args.question.stop c.args.reached.now long (λ l h. let x = c.fill_distances.ensures l (omega (arith, h, e)) in let s = c.requires.stop in omega (arith, x, s)))
           c.requires.target long c.put_distance.auto.distances c.put_distance.ensures.others (let z = c.put_distance.ensures.here in omega (arith, z))
-          (subst (λ (before : ℕ). IsOpened before (of ds c.args.question.target) c.args.question.limit c.args.question.target 0 c.args.reached.now c.open_input-count.new.reached c.open_input-count.result) (sym far)
-          (subst (λ (after : ℕ). IsOpened c.args.question.limit after c.args.question.limit c.args.question.target 0 c.args.reached.now c.open_input-count.new.reached c.open_input-count.result) (sym c.put_distance.ensures.here) c.open_input-count.ensures));
+          (subst (λ (before : ℕ). IsOpened before (of ds c.args.question.target) c.args.question.stop c.args.question.target 0 c.args.reached.now c.open_input-count.new.reached c.open_input-count.result) (sym far)
+          (subst (λ (after : ℕ). IsOpened c.args.question.limit after c.args.question.stop c.args.question.target 0 c.args.reached.now c.open_input-count.new.reached c.open_input-count.result) (sym c.put_distance.ensures.here) c.open_input-count.ensures));
       running = (
         c.args.question.target,
         begun n c.args.edges.now (of c.args.kept.now) (of ds) (of c.args.vias.now) (of ts) c.args.question.target c.args.question.limit (are_met c.args.n c.args.edges.now c.args.kept.now c.requires.bounds) c.put_distance.ensures.here
@@ -54,8 +54,8 @@ relax_into-count-requires-clause-is_open c =
     let some = unset_some n c.loop-place.turns (get_or c.loop-place.reached c.in-Some.place 0) (omega (arith, there, long)) c.in-Some.ensures.unset in
     let few = c.loop-place.invariant.few in
     let is = c.put_number-in-Some.ensures.here in
-    subst (λ (n : ℕ). IsOpen n c.loop-place.distances (of c.put_number-in-Some.new.numbers) c.args.question.limit c.put_number.new.numbers (c.loop-place.count - 1)) (sym c.requires.bounds.solution.long)
-    (closed n c.loop-place.distances (of c.loop-place.turns) (of c.put_number-in-Some.new.numbers) c.args.question.limit c.loop-place.reached c.put_number.new.numbers c.loop-place.count c.in-Some.place
+    subst (λ (n : ℕ). IsOpen n c.loop-place.distances (of c.put_number-in-Some.new.numbers) c.args.question.stop c.put_number.new.numbers (c.loop-place.count - 1)) (sym c.requires.bounds.solution.long)
+    (closed n c.loop-place.distances (of c.loop-place.turns) (of c.put_number-in-Some.new.numbers) c.args.question.stop c.loop-place.reached c.put_number.new.numbers c.loop-place.count c.in-Some.place
     (get_or c.loop-place.reached c.in-Some.place 0) c.loop-place.invariant.is_open c.in-Some.ensures.there refl (omega (arith, some, few, is)) c.put_number-in-Some.ensures.others
     c.put_number.ensures.here c.put_number.ensures.others)
 
@@ -103,7 +103,7 @@ loop-place-preserved c =
     is c.put_number-in-Some.ensures.others in
     record {
       few = omega (arith, few, less);
-      is_open = subst (λ (n : ℕ). IsOpen n c.relax_into-count.new.distances (of c.put_number-in-Some.new.numbers) c.args.question.limit c.relax_into-count.new.reached c.relax_into-count.result) c.requires.bounds.solution.long c.relax_into-count.ensures.is_open;
+      is_open = subst (λ (n : ℕ). IsOpen n c.relax_into-count.new.distances (of c.put_number-in-Some.new.numbers) c.args.question.stop c.relax_into-count.new.reached c.relax_into-count.result) c.requires.bounds.solution.long c.relax_into-count.ensures.is_open;
       running = (
         k,
         subst (λ (n : ℕ). IsRunning n edges y (of c.relax_into-count.new.distances) (of c.relax_into-count.new.vias) (of c.put_number-in-Some.new.numbers) (c.loop-place.turn + 1) c.args.question.target c.args.question.limit k 0) c.requires.bounds.solution.long

@@ -6,7 +6,7 @@ abbrev pub invariant-loop-place : goal.invariant-loop-place
 invariant-loop-place l =
     record {
       few : l.turn + unset l.n l.turns ≤ l.n;
-      is_open : IsOpen l.n l.distances (of l.turns) l.question.limit l.reached l.count;
+      is_open : IsOpen l.n l.distances (of l.turns) l.question.stop l.reached l.count;
       running : (k : ℕ) × IsRunning l.n l.edges (of l.kept) (of l.distances) (of l.vias) (of l.turns) l.turn l.question.target l.question.limit k 0;
     }
 

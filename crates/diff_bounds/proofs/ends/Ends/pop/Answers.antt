@@ -1,19 +1,8 @@
-use Rattle.std.proofs.Common.{length, get_or, inl, inr, ap, ◌∙◌}
-use Rattle.std.proofs.lemmas.List.{with_items_is}
-use Rattle.diff_bounds.proofs.Listed.{fewer_listed}
+use Rattle.std.proofs.Common.{refl}
 use Rattle.diff_bounds.proofs.ends.Ends.pop.Goals as goal
 
-pub returns-in-Some : goal.returns-in-Some
-returns-in-Some c =
-    let s = c.args.self.now in
-    let to = c.args.edge.to in
-    let xs = c.put_number.new.numbers in
-    let same = with_items_is s.lasts xs (c.put_number.auto.numbers ∙ c.deref_mut.ensures.len) in
-    fewer_listed c.args.edges.now c.args.edge c.args.n c.in-Some.last s _ c.requires.listed
-    (ap length same ∙ c.put_number.auto.numbers ∙ c.deref_mut.ensures.len ∙ s.lasts.ok.0)
-    (ap (λ xs. get_or xs to 0) same ∙ c.put_number.ensures.here)
-    (λ l. elim (c.put_number.ensures.others l) [
-      | inl q ↦ inl q
-      | inr i ↦ inr (ap (λ xs. get_or xs l 0) same ∙ i ∙ ap (λ xs. get_or xs l 0) c.deref_mut.ensures.value)
-    ])
-    c.in-Some.ensures.items
+pub returns : goal.returns
+returns c = record {
+  to = c.pop.ensures c.args.n (λ a. a.to) refl c.requires.listed.to;
+  from = c.pop-2.ensures c.args.n (λ a. a.from) refl c.requires.listed.from;
+}

@@ -1,10 +1,31 @@
-use Rattle.std.proofs.Common.{◌≡◌, ◌∷◌, ◌++◌, [], get_or, refl, ap, ◌∙◌}
-use Rattle.diff_bounds.proofs.Listed.{held_listed}
+use Rattle.std.proofs.Common.{refl, arith}
+use Rattle.std.specs.Prelude.{Result, Ok, Err, OnErr}
+use Rattle.diff_bounds.proofs.Least.{length_more}
 use Rattle.diff_bounds.proofs.ends.Ends.push_held.Goals as goal
 
-pub returns-clause-listed : goal.returns-clause-listed
-returns-clause-listed c =
-    let s = c.args.self.now in
-    let to = c.args.edge.to in
-    let last : get_or c.as_slice.result.now to 0 ≡ get_or s.lasts.items to 0 = ap (λ xs. get_or xs to 0) c.as_slice.ensures.value in
-    held_listed c.args.edges.now c.args.edge c.args.n s _ c.requires.listed c.requires.to (c.in_ok-push.ensures.items ∙ ap (λ h. s.earlier.items ++ h ∷ []) last) refl c.requires.held
+at_err : {T E P : Type 0} (r : Result T E) → P → OnErr r P
+at_err (Ok v) p = tt
+at_err (Err e) p = p
+
+pub returns-in_err-push_held-clause-unchanged : goal.returns-in_err-push_held-clause-unchanged
+returns-in_err-push_held-clause-unchanged c = at_err c.from_residual.result (record { to = c.in_err-push_held.ensures.unchanged c.args.n (λ a. a.to) c.requires.listed.to; from = c.requires.listed.from })
+
+pub pop-requires-clause-there : goal.pop-requires-clause-there
+pop-requires-clause-there c = let long = (c.in_ok-push_held.ensures.listed c.args.n (λ a. a.to) refl c.requires.listed.to).inputs in let h = c.requires.to in omega (arith, long, h)
+
+pub pop-requires-clause-some : goal.pop-requires-clause-some
+pop-requires-clause-some c =
+    let long = (c.in_ok-push_held.ensures.listed c.args.n (λ a. a.to) refl c.requires.listed.to).numbers in
+    let more = length_more c.args.edges.now c.args.edge in omega (arith, long, more)
+
+pub returns-in-Ok-clause-listed : goal.returns-in-Ok-clause-listed
+returns-in-Ok-clause-listed c = record {
+  to = c.in_ok-push_held.ensures.listed c.args.n (λ a. a.to) refl c.requires.listed.to;
+  from = c.in-Ok.ensures.listed c.args.n (λ a. a.from) refl c.requires.listed.from;
+}
+
+pub returns-in-Err-clause-unchanged : goal.returns-in-Err-clause-unchanged
+returns-in-Err-clause-unchanged c = record {
+  to = c.pop.ensures c.args.n (λ a. a.to) refl (c.in_ok-push_held.ensures.listed c.args.n (λ a. a.to) refl c.requires.listed.to);
+  from = c.in-Err.ensures.unchanged c.args.n (λ a. a.from) c.requires.listed.from;
+}
