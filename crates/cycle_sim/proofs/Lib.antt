@@ -2,3 +2,8 @@ pub mod Histories
 pub mod Grown
 pub mod Quiet
 pub mod Passes
+pub mod Operated
+pub mod Planned
+pub mod Loaded
+pub mod Compiled
+pub mod Ran

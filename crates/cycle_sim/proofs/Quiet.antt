@@ -34,6 +34,10 @@ quiet_view v m started levels s view on next is =
     let same : levels ≡ s = cc in
     subst (λ z. IsNext z s s s.inputs) c (subst (λ (z : State). IsNext m z z z.inputs) same next)
 
+-- levels under new inputs
+pub levels_under : (m : Circuit) (s s' : State) (inputs : List Bool) → HasAllLevels m s → length inputs ≡ length m.inputs → s' ≡ record s { inputs = inputs } → HasAllLevels m s'
+levels_under m s s' inputs h long e = subst (λ z. HasAllLevels m z) (sym e) (record { inputs = long; regs = h.regs; rest = record { wires = h.rest.wires; outs = h.rest.outs } })
+
 -- levels under new inputs, settled
 pub levels_after : (m : Circuit) (s s' s'' : State) (inputs : List Bool) → HasAllLevels m s → length inputs ≡ length m.inputs → s' ≡ record s { inputs = inputs } →
     IsSettled m s'' → s''.inputs ≡ s'.inputs → s''.regs ≡ s'.regs → HasAllLevels m s''

@@ -1,3 +1,4 @@
 pub mod Standing
+pub mod Operations
 pub mod Ready
 pub mod Code

@@ -5,14 +5,16 @@ use Rattle.circuit.specs.Meaning.{State, IsSettled, row_at_start}
 use Rattle.levels.specs.Levels.{HasAllLevels}
 use Rattle.levels.specs.Marked.{IsUnmarked}
 use Rattle.levels.specs.Operands.{AreReaders, HasTaps}
+use Rattle.cycle_sim.specs.Operations.{Plan, IsPlan}
 use Rattle.marked_steps.specs.UpToDate.{IsUpToDate}
 
--- Every level has its place, the lists have all readers, there is room for marks and next levels, no register moves, and
+-- Every level has its place, the lists have all readers, the program is the module's, there is room for marks and next levels, no register moves, and
 -- what isn't marked is up to date. Before the first step the registers are as in cycle 0; after it all is settled.
-pub record IsReady (m : Circuit) (started quiet : Bool) (s : State) (starts : List ℕ) (lists : List (List ℕ)) (tapped words moving : List ℕ) (firsts : List Bool) : Type 0 where
+pub record IsReady (m : Circuit) (started quiet : Bool) (s : State) (starts : List ℕ) (lists : List (List ℕ)) (tapped : List ℕ) (plan : Plan) (words moving : List ℕ) (firsts : List Bool) : Type 0 where
   pub levels : HasAllLevels m s
   pub readers : AreReaders m starts lists
   pub taps : HasTaps lists tapped
+  pub program : IsPlan m plan
   pub room : length m.assigns + length m.regs ≤ 64 * length words
   pub moving_room : length m.regs ≤ 64 * length moving
   pub next_room : length firsts ≡ length m.regs

@@ -3,8 +3,12 @@
 //! `NoMemory` is answered if memory ran out.
 #![tactic(auto)]
 
+mod compiling;
 pub mod laws;
+mod operation;
 mod pass;
+mod performing;
+mod program;
 mod running;
 mod settle;
 mod sim;

@@ -1,10 +1,13 @@
 ghost use Rattle.std.specs.Prelude.{◌≡◌, ◌≤◌, ◌+◌, ◌*◌, length};
 ghost use Rattle.circuit.specs.Meaning.{HasLevels, IsSettled};
+ghost use Rattle.cycle_sim.specs.Operations.{IsPlan};
+ghost use Rattle.levels.specs.Levels.{HasAllLevels};
 ghost use Rattle.levels.specs.Marked.{NoneFrom};
 ghost use Rattle.levels.specs.Operands.{AreReaders};
 ghost use Rattle.marked_steps.specs.UpToDate.{IsUpToDate};
 
 use crate::pass::settle_plainly;
+use crate::program::Program;
 use circuit::Module;
 use levels::{Levels, Marks, Readers};
 use marked_steps::{activate, most_marked};
@@ -42,11 +45,19 @@ fn settle_marked(
 
 /// Gives each wire and output its expression's level, where only marked assigns may lack it. Marks cost more than a
 /// plain pass where many assigns are marked, or come to be, so then a plain pass is made.
-pub fn settle(m: &Module, readers: &Readers, levels: &mut Levels, marks: &mut Marks)
-    requires levels { HasLevels m.now levels.old }
+pub fn settle(
+    m: &Module,
+    readers: &Readers,
+    program: &mut Program,
+    levels: &mut Levels,
+    marks: &mut Marks,
+)
+    requires plan { IsPlan m.now program.old }
+    requires levels { HasAllLevels m.now levels.old }
     requires readers { AreReaders m.now readers.now.starts.items readers.now.lists }
     requires room { length m.now.assigns + length m.now.regs ≤ 64 * length marks.old }
     requires up_to_date { IsUpToDate m.now levels.old marks.old }
+    ensures same_plan { program.new ≡ program.old }
     ensures settled { IsSettled m.now levels.new }
     ensures up_to_date { IsUpToDate m.now levels.new marks.new }
     ensures inputs { levels.new.inputs ≡ levels.old.inputs }
@@ -57,6 +68,6 @@ pub fn settle(m: &Module, readers: &Readers, levels: &mut Levels, marks: &mut Ma
     let most = most_marked(m, marks);
     let next = settle_marked(m, readers, levels, marks, most);
     if next < count {
-        settle_plainly(m, levels, marks);
+        settle_plainly(m, program, levels, marks);
     }
 }

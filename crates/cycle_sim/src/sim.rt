@@ -3,6 +3,8 @@ ghost use Rattle.circuit.specs.Meaning.{State, IsNext};
 ghost use Rattle.cycle_sim.specs.Standing.{IsStep, output_level};
 ghost use Rattle.levels.specs.Marked.{IsUnmarked};
 
+use crate::compiling::compile;
+use crate::program::Program;
 use crate::settle::settle;
 use circuit::Module;
 use levels::laws::few_items;
@@ -15,7 +17,7 @@ use std::marker::Model;
 /// A simulation of a module. It is either not yet started, or in a cycle with all levels settled.
 ///
 /// `started` is whether a step was made, and `quiet` that the next one changes nothing if the inputs don't. `busy` is whether many
-/// registers changed at the last clock edge. `marks` are the assigns and registers that may not be up to date.
+/// registers changed at the last clock edge. `program` gives all wires and outputs their levels. `marks` are the assigns and registers that may not be up to date.
 /// `moving` and `firsts` are room for the registers that change at a clock edge, and what they take.
 #[derive(Drop)]
 pub struct Sim<'a> {
@@ -25,6 +27,7 @@ pub struct Sim<'a> {
     busy: bool,
     levels: Levels,
     readers: Readers,
+    program: Program,
     marks: Marks,
     moving: Marks,
     firsts: Vec<bool>,
@@ -42,7 +45,7 @@ impl<'a> Model for Sim<'a> {
 
     ghost view = { λ s. record { circuit = s.module.now; state = if s.started then Some s.levels else None } };
 
-    ghost invariant = { λ s. IsReady s.module.now s.started s.quiet s.levels s.readers.starts.items s.readers.lists s.readers.tapped s.marks s.moving s.firsts.items };
+    ghost invariant = { λ s. IsReady s.module.now s.started s.quiet s.levels s.readers.starts.items s.readers.lists s.readers.tapped s.program s.marks s.moving s.firsts.items };
 }
 
 impl<'a> Sim<'a> {
@@ -61,6 +64,7 @@ impl<'a> Sim<'a> {
             busy: false,
             levels: Levels::low(alloc, m)?,
             readers: readers_of(alloc, m)?,
+            program: compile(alloc, m)?,
             marks: Marks::all(alloc, assigns + regs)?,
             moving: Marks::none(alloc, regs)?,
             firsts: all_low(alloc, regs)?,
@@ -101,7 +105,13 @@ impl<'a> Sim<'a> {
             self.busy = is_busy(m, changed);
         }
         set_inputs(m, &self.readers, &mut self.levels, &mut self.marks, inputs);
-        settle(m, &self.readers, &mut self.levels, &mut self.marks);
+        settle(
+            m,
+            &self.readers,
+            &mut self.program,
+            &mut self.levels,
+            &mut self.marks,
+        );
         self.started = true;
         self.quiet = is_quiet(m, &self.marks);
     }

@@ -66,8 +66,22 @@ impl Levels {
         self.outs.as_slice()
     }
 
-    // The level of a bit of a register.
-    fn register_bit(&self, reg: u32, place: u32) -> bool
+    /// The levels of the inputs, in order.
+    pub fn inputs(&self) -> &[bool]
+        ensures { result.now ≡ self.now.inputs }
+    {
+        self.inputs.as_slice()
+    }
+
+    /// The levels of the wires, in order.
+    pub fn wires(&self) -> &[bool]
+        ensures { result.now ≡ self.now.wires }
+    {
+        self.wires.as_slice()
+    }
+
+    /// The level of a bit of a register, low where there is none.
+    pub fn register_bit(&self, reg: u32, place: u32) -> bool
         ensures { result ≡ slice_index_or (slice_index_or self.now.regs reg []) place false }
     {
         match self.regs.get(reg as usize) {
@@ -142,6 +156,22 @@ impl Levels {
         ensures { self.new ≡ record self.old { inputs = inputs.now } }
     {
         self.inputs.copy_from_slice(inputs);
+    }
+
+    /// Gives the wires these levels.
+    pub fn set_wires(&mut self, wires: &[bool])
+        requires { length wires.now ≡ length self.old.wires }
+        ensures { self.new ≡ record self.old { wires = wires.now } }
+    {
+        self.wires.copy_from_slice(wires);
+    }
+
+    /// Gives the outputs these levels.
+    pub fn set_outs(&mut self, outs: &[bool])
+        requires { length outs.now ≡ length self.old.outs }
+        ensures { self.new ≡ record self.old { outs = outs.now } }
+    {
+        self.outs.copy_from_slice(outs);
     }
 
     /// How many bits a register has.

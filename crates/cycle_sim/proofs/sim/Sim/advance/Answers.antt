@@ -7,7 +7,8 @@ use Rattle.levels.proofs.Edges.{edge_keeps}
 use Rattle.cycle_sim.specs.declared.sim.Sim.TheInside.{Inside}
 use Rattle.levels.specs.Marked.{IsUnmarked}
 use Rattle.levels.specs.Operands.{AreReaders, HasTaps}
-use Rattle.cycle_sim.proofs.Quiet.{levels_after}
+use Rattle.cycle_sim.specs.Operations.{IsPlan}
+use Rattle.cycle_sim.proofs.Quiet.{levels_after, levels_under}
 use Rattle.cycle_sim.proofs.sim.Sim.advance.Goals as goal
 use Rattle.cycle_sim.proofs.sim.Sim.advance.Goals.{then-self, else-self}
 
@@ -17,10 +18,23 @@ record Kept (m : Circuit) (sim : Inside) : Type 0 where
   levels : HasAllLevels m sim.levels
   readers : AreReaders m sim.readers.starts.items sim.readers.lists
   taps : HasTaps sim.readers.lists sim.readers.tapped
+  program : IsPlan m sim.program
   room : length m.assigns + length m.regs ≤ 64 * length sim.marks
   moving_room : length m.regs ≤ 64 * length sim.moving
   next_room : length sim.firsts.items ≡ length m.regs
   none : (r : ℕ) → r < length m.regs → IsUnmarked sim.moving r
+
+pub settle-requires-clause-levels : goal.settle-requires-clause-levels
+settle-requires-clause-levels c =
+    let m = c.self.inside.module.now in
+    let levels : HasAllLevels m c.if-self.self-inside.levels =
+    elim c.if-self.branch [
+      | then-self w ↦ subst (λ (x : Inside). HasAllLevels m x.levels) (sym w.self-inside-is)
+          (subst (λ s. HasAllLevels m s) (sym w.clock_edge-changed.ensures.state) (edge_keeps m c.self.inside.levels c.self.invariant.levels))
+      | else-self w ↦ subst (λ (x : Inside). HasAllLevels m x.levels) (sym w.self-inside-is) c.self.invariant.levels
+    ] in
+    let long : length c.args.inputs.now ≡ length m.inputs = c.requires ∙ ap (λ (s : Standing). length s.circuit.inputs) (sym c.self.view_is) in
+    levels_under m c.if-self.self-inside.levels c.set_inputs.new.levels c.args.inputs.now levels long c.set_inputs.ensures.state
 
 pub invariant_of-self : goal.invariant_of-self
 invariant_of-self c =
@@ -34,6 +48,7 @@ invariant_of-self c =
         levels = subst (λ s. HasAllLevels m s) (sym w.clock_edge-changed.ensures.state) (edge_keeps m c.self.inside.levels i.levels);
         readers = i.readers;
         taps = i.taps;
+        program = i.program;
         room = omega (arith, i.room, w.clock_edge-changed.ensures.room);
         moving_room = omega (arith, i.moving_room, w.clock_edge-changed.ensures.moving_room);
         next_room = sym (length_refill firsts.len firsts.items w.clock_edge-changed.new.firsts firsts.ok.0) ∙ (firsts.ok.0 ∙ i.next_room);
@@ -44,6 +59,7 @@ invariant_of-self c =
         levels = i.levels;
         readers = i.readers;
         taps = i.taps;
+        program = i.program;
         room = i.room;
         moving_room = i.moving_room;
         next_room = i.next_room;
@@ -57,6 +73,7 @@ invariant_of-self c =
           c.settle.ensures.inputs c.settle.ensures.regs;
       readers = kept.readers;
       taps = kept.taps;
+      program = subst (λ z. IsPlan m z) (sym c.settle.ensures.same_plan) kept.program;
       room = omega (arith, kept.room, c.set_inputs.ensures.room, c.settle.ensures.room);
       moving_room = kept.moving_room;
       next_room = kept.next_room;

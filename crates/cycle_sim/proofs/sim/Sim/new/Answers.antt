@@ -14,6 +14,7 @@ invariant_of-result c =
       levels = c.in_ok-low.ensures.all;
       readers = c.in_ok-readers_of.ensures.readers;
       taps = c.in_ok-readers_of.ensures.taps;
+      program = c.in_ok-compile.ensures;
       room = omega (arith, a, r, c.in_ok-all.ensures.room);
       moving_room = omega (arith, r, c.in_ok-none.ensures.room);
       next_room = ap (λ z. length z) c.in_ok-all_low.ensures ∙ (length-replicate (length c.regs-regs.result.now) false ∙ r);
