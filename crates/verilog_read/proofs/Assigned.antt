@@ -16,7 +16,8 @@ use Rattle.verilog_read.specs.declared.draft.Draft as source
 use Rattle.verilog_read.specs.declared.scope.Meaning as source_meaning
 use Rattle.verilog_read.specs.declared.scope.Meaning.TheVariants as m
 use Rattle.verilog_read.specs.Known as k
-use Rattle.verilog_read.specs.Known.{find, meaning, meaning_found, knows_by, given_by, fits_by, resolved_by, names_reg_by}
+use Rattle.verilog_read.specs.Scope.{find}
+use Rattle.verilog_read.specs.Known.{meaning, meaning_found, knows_by, given_by, fits_by, resolved_by, names_reg_by}
 use Rattle.verilog_laws.specs.Sound.{HasPlace, IsSound}
 use Rattle.verilog_read.specs.Draft.{AreFlags, IsDraft, is_assigned_by, assign_misnamed_by, assign_misordered_by, always_misnamed_by, regs_misnamed_by, is_update_reg, update_at, set_register}
 use Rattle.verilog_read.proofs.Places.{get_within, get_map, get_none}

@@ -18,10 +18,10 @@ use Rattle.verilog_text.specs.Grammar.{Form, Expression}
 use Rattle.verilog_text.specs.Judging as j
 use Rattle.verilog_text.specs.Judging.{SoFar, nothing_yet, Entry, Declared, Meaning, ClockOrReset, InputAt, OutputAt, WireAt, RegAt, found, bits_of, is_clock_or_reset, is_input_port, is_output_port, is_next, register_of, is_given, module_of, with_entry, with_wire, with_reg, with_output, width_of, number_of, first_of, first_rule, after}
 use Rattle.verilog_read.specs.declared.draft.Draft as source
-use Rattle.verilog_read.specs.declared.scope.Scope as source_scope
 use Rattle.verilog_read.specs.declared.scope.Meaning as source_meaning
 use Rattle.verilog_read.specs.declared.scope.Meaning.TheVariants as m
-use Rattle.verilog_read.specs.Known.{find, meaning, meaning_found, AddsName, capped_width}
+use Rattle.verilog_read.specs.Scope.{Names, find}
+use Rattle.verilog_read.specs.Known.{meaning, meaning_found, AddsName, capped_width}
 use Rattle.verilog_laws.specs.Sound.{IsSound}
 use Rattle.verilog_read.specs.Draft.{AreFlags, IsDraft, is_misnamed_by, is_misplaced_by, input_misnamed_by, output_misnamed_by, own_misnamed_by}
 use Rattle.verilog_read.proofs.Places.{none_of, length_more}
@@ -131,7 +131,7 @@ uncapped (Some digits) h = omega (arith, h)
 
 -- ---- names of a scope with one more
 
-names_more : (old new : source_scope.Scope) (es : List Entry) (n : List ℕ) (k : source_meaning.Meaning) →
+names_more : (old new : Names) (es : List Entry) (n : List ℕ) (k : source_meaning.Meaning) →
     ((t : List ℕ) → meaning_found (find old t) ≡ found t es) → AddsName old new n k → found n es ≡ None →
     (t : List ℕ) → meaning_found (find new t) ≡ found t (es ++ entry n (meaning k) ∷ [])
 names_more old new es n k h adds fresh t =

@@ -10,4 +10,5 @@ pub mod Assigned
 pub mod Zeros
 pub mod Flags
 pub mod Reached
+pub mod Scopes
 pub mod Spines

@@ -22,7 +22,8 @@ use Rattle.verilog_read.specs.declared.draft.Fault.{Fault}
 use Rattle.verilog_read.specs.declared.draft.StepError.{StepError}
 use Rattle.verilog_read.specs.declared.draft.StepError.TheVariants.{Broken}
 use Rattle.verilog_read.specs.declared.draft.StepError.TheVariants as step
-use Rattle.verilog_read.specs.Known.{find, meaning_found, is_reg, knows_by, given_by, names_reg_by, IsJudged}
+use Rattle.verilog_read.specs.Scope.{find}
+use Rattle.verilog_read.specs.Known.{meaning_found, is_reg, knows_by, given_by, names_reg_by, IsJudged}
 
 -- the flags of the places below n say what f says
 pub record AreFlags (flags : List Bool) (n : ℕ) (f : ℕ → Bool) : Type 0 where

@@ -1,9 +1,6 @@
 -- What the names of a module in the making mean, as a reader looks them up, and what it finds out of an expression.
 use Rattle.std.specs.Prelude.{◌≡◌, ℕ, ◌+◌, Bool, true, false, ◌&&◌, ◌==◌, nat_lt, min, List, Option, Some, None, slice_get, slice_index_or, if◌then◌else◌, bytes_eq}
-use Rattle.std.specs.Ordering.{nat_cmp}
-use Rattle.std.specs.Cmp.Lexicographic.{slice_cmp}
-use Rattle.std.specs.BTreeMap.{get_by}
-use Rattle.verilog_read.specs.declared.scope.Scope as source
+use Rattle.verilog_read.specs.Scope.{Names, find}
 use Rattle.verilog_read.specs.declared.scope.Meaning.{Meaning}
 use Rattle.verilog_read.specs.declared.scope.Meaning.TheVariants as m
 use Rattle.verilog_read.specs.declared.judged.Judged as source_judged
@@ -14,11 +11,7 @@ use Rattle.verilog_text.specs.Grammar.{Expression, Low, High, Name, Bit, Not, Gr
 use Rattle.verilog_text.specs.Judging as j
 use Rattle.verilog_text.specs.Judging.{number_of}
 
--- what a name means in the scope
-abbrev pub find : source.Scope → List ℕ → Option Meaning
-find s t = get_by (λ k. slice_cmp nat_cmp t k.now) s.map
-
-abbrev pub AddsName : source.Scope → source.Scope → List ℕ → Meaning → Type 0
+abbrev pub AddsName : Names → Names → List ℕ → Meaning → Type 0
 AddsName old new name meaning = (t : List ℕ) → find new t ≡ (if bytes_eq name t then Some meaning else find old t)
 
 abbrev pub meaning : Meaning → j.Meaning

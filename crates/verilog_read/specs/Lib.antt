@@ -1,3 +1,4 @@
+pub mod Scope
 pub mod Outcome
 pub mod Known
 pub mod Joined

@@ -4,7 +4,8 @@ ghost use Rattle.verilog_text.specs.Grammar as g;
 ghost use Rattle.verilog_text.specs.Judging as j;
 ghost use Rattle.circuit.specs.View.{logic};
 ghost use Rattle.verilog_syntax.specs.View as v;
-ghost use Rattle.verilog_read.specs.Known.{find, meaning_found, is_reg, is_flagged_reg, names_reg_by, resolved_by};
+ghost use Rattle.verilog_read.specs.Scope.{find};
+ghost use Rattle.verilog_read.specs.Known.{meaning_found, is_reg, is_flagged_reg, names_reg_by, resolved_by};
 ghost use Rattle.verilog_read.specs.Draft.{IsOfSome, Adds, Judges, IsJudgedBy, is_assigned_by, is_update_reg, update_at, set_register, assign_misnamed_by, assign_misordered_by, regs_misnamed_by};
 
 use crate::draft::{Draft, StepError};

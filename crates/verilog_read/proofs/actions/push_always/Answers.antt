@@ -1,6 +1,5 @@
 use Rattle.std.proofs.Common.{rules, ◌≡◌, false, refl, ap, ◌∙◌, Some}
 use Rattle.circuit.specs.View.{logic}
-use Rattle.verilog_syntax.specs.View as v
 use Rattle.verilog_read.specs.declared.scope.Meaning.{Meaning}
 use Rattle.verilog_read.specs.Known.{is_reg}
 use Rattle.verilog_read.proofs.Assigned.{always_kept, always_other}

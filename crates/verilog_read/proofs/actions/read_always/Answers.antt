@@ -1,4 +1,4 @@
-use Rattle.std.proofs.Common.{Bool, inl, inr, ap, subst, refl, ◌||◌, not}
+use Rattle.std.proofs.Common.{Bool, inl, inr, ap, subst, ◌||◌, not}
 use Rattle.verilog_syntax.specs.View as v
 use Rattle.verilog_read.specs.Draft.{IsJudgedBy}
 use Rattle.verilog_read.proofs.Assigned.{always_misnamed, always_updated, always_unfit, always_wrong, always_stands, misnamed_is, not_true, not_false}

@@ -1,7 +1,7 @@
-use Rattle.std.proofs.Common.{◌≡◌, ◌∷◌, ◌++◌, [], length, sym, ap, subst, ◌∙◌, arith, length-append}
+use Rattle.std.proofs.Common.{◌∷◌, [], length, ap, subst, arith, length-append}
 use Rattle.verilog_syntax.specs.View.{expression}
 use Rattle.verilog_read.specs.Draft.{IsJudgedBy}
-use Rattle.verilog_read.specs.Joined.{join, joined, IsSpine}
+use Rattle.verilog_read.specs.Joined.{join, IsSpine}
 use Rattle.verilog_read.proofs.Spines.{spine_first, spine_shorter, spine_none}
 use Rattle.verilog_read.proofs.expressions.+walk.Goals as goal
 

@@ -1,4 +1,4 @@
-use Rattle.std.proofs.Common.{ℕ, ◌+◌, ◌*◌, length}
+use Rattle.std.proofs.Common.{◌+◌, ◌*◌, length}
 use Rattle.verilog_text.specs.Grammar.{Expression}
 use Rattle.verilog_syntax.specs.View.{expression}
 use Rattle.verilog_read.specs.Draft.{IsJudgedBy}

@@ -3,8 +3,18 @@ use Rattle.std.proofs.lemmas.Result.{err_from_is_err_and}
 use Rattle.verilog_syntax.specs.View.{statement}
 use Rattle.verilog_syntax.specs.Reads.{stage}
 use Rattle.verilog_text.specs.Statements.{Start}
-use Rattle.verilog_read.proofs.Reached.{begins, goes_on, stops, faulty, opened_short}
+use Rattle.verilog_read.proofs.Reached.{begins, next_ready, goes_on, stops, faulty, opened_short}
 use Rattle.verilog_read.proofs.judging.read_all.Goals as goal
+
+-- src/judging.rt:143:22
+pub judge_next-requires : goal.judge_next-requires
+judge_next-requires c =
+    let ls = c.args.words.now in
+    let d = c.no_statements-draft.result in
+    record {
+      ready = next_ready ls d None Start ls (begins ls d c.statements_stay_sound.ensures.none c.no_statements-draft.ensures)
+          (statement c.in_ok-first.first) c.next_statement.new.words c.in_ok-first.ensures.opens;
+    }
 
 pub loop-alloc-init : goal.loop-alloc-init
 loop-alloc-init c =

@@ -1,4 +1,4 @@
-use Rattle.std.proofs.Common.{◌<◌, ◌++◌, ◌∷◌, [], sym, ap, subst, arith}
+use Rattle.std.proofs.Common.{◌<◌, sym, subst, arith}
 use Rattle.verilog_syntax.specs.View.{expression}
 use Rattle.verilog_read.specs.Joined.{IsTakenApart, IsSpine}
 use Rattle.verilog_read.proofs.Spines.{left, left_of, spine_whole, spine_longer, single_spine}
