@@ -22,13 +22,13 @@ use term_store::{Store, Term};
 use tree_check::Form;
 
 /// How many places get forms on all ways together, at most: large terms get fewer ways.
-const WAYS_PLACES: usize = 131_072;
+const WAYS_PLACES: usize = 32_768;
 
 /// The most ways.
-const MOST_WAYS: usize = 4096;
+const MOST_WAYS: usize = 1024;
 
 /// A number for each of so many inputs, which meet the premises, and at which two places of a store differ: at the end of the first
-/// way that shows it, of at most 4,096, always the same ones, or `None` where none of them does. None is tried where the two places
+/// way that shows it, of at most 1,024, always the same ones, or `None` where none of them does. None is tried where the two places
 /// are one.
 pub fn difference_on_ways(
     alloc: Global,
