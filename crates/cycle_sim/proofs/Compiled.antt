@@ -15,20 +15,31 @@ use Rattle.cycle_sim.specs.declared.operation.Places.{Places}
 use Rattle.cycle_sim.specs.declared.operation.Formula.{Formula}
 use Rattle.cycle_sim.specs.declared.operation.Operation.{Operation}
 use Rattle.cycle_sim.specs.Operations.{at, literal_level, formula_level, all_done, wire_place, out_place, free_place, target_place, ArePlaces, IsPlaced, Fits, Plan, with_operation, IsWithin, IsSound, AreLaid, Represents, Computes, Activates, IsPlanOfFirst}
-use Rattle.cycle_sim.proofs.Operated.{done_append, done_length, done_keeps, literal_same, alone_level, product_level, sum_level}
+use Rattle.cycle_sim.proofs.Operated.{done_append, done_length, done_keeps, literal_same, alone_level, only_factor_level, product_level, sum_level}
 use Rattle.cycle_sim.proofs.Planned.{of_left, of_right, still, reads, both}
 use Rattle.cycle_sim.proofs.Passes.{one_more_from}
 
 abbrev pub alone : ℕ → Formula
-alone n = record { first = 0; second = 1; third = n }
+alone n = record { first = n; second = 0; third = 0 }
+
+abbrev pub only_factor : ℕ → Formula
+only_factor n = record { first = 0; second = 1; third = n }
 
 pub alone_within : (room n : ℕ) (f : Formula) → f ≡ alone n → 0 < room → n / 2 < room → IsWithin room f
-alone_within room n f e some lt = subst (λ z. IsWithin room z) (sym e) (record { first = omega (arith, some); second = omega (arith, some); third = lt })
+alone_within room n f e some lt = subst (λ z. IsWithin room z) (sym e) (record { first = lt; second = omega (arith, some); third = omega (arith, some) })
+
+pub only_factor_within : (room n : ℕ) (f : Formula) → f ≡ only_factor n → 0 < room → n / 2 < room → IsWithin room f
+only_factor_within room n f e some lt = subst (λ z. IsWithin room z) (sym e) (record { first = omega (arith, some); second = omega (arith, some); third = lt })
 
 -- a formula of one literal
 pub alone_computes : (p q : Plan) (f : Formula) (n : ℕ) (e : Logic) → f ≡ alone n → Computes p q (λ values. literal_level values n) e → Computes p q (λ values. formula_level values f) e
 alone_computes p q f n e is c = subst (λ z. Computes p q (λ values. formula_level values z) e) (sym is)
     (reads p q (λ values. literal_level values n) (λ values. formula_level values (alone n)) e (λ values low. alone_level values (alone n) n refl refl refl low) c)
+
+pub only_factor_computes : (p q : Plan) (f : Formula) (n : ℕ) (e : Logic) → f ≡ only_factor n → Computes p q (λ values. literal_level values n) e →
+    Computes p q (λ values. formula_level values f) e
+only_factor_computes p q f n e is c = subst (λ z. Computes p q (λ values. formula_level values z) e) (sym is)
+    (reads p q (λ values. literal_level values n) (λ values. formula_level values (only_factor n)) e (λ values low. only_factor_level values (only_factor n) n refl refl refl low) c)
 
 pub not_computes : (p q : Plan) (n k : ℕ) (e : Logic) → ((values : List Bool) → literal_level values k ≡ not (literal_level values n)) →
     Computes p q (λ values. literal_level values n) e → Computes p q (λ values. literal_level values k) (l.Not e)

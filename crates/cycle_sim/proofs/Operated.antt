@@ -53,9 +53,21 @@ literal_even values p =
     let b : 2 * p / 2 ≡ p = omega arith in
     ap (λ z. if z == 1 then not (at values (2 * p / 2)) else at values (2 * p / 2)) a ∙ ap (λ z. at values z) b
 
+or_false : (p : Bool) → (p || false) ≡ p
+or_false true = refl
+or_false false = refl
+
 -- a formula of one literal, where place 0 is low
-pub alone_level : (values : List Bool) (f : Formula) (n : ℕ) → f.first ≡ 0 → f.second ≡ 1 → f.third ≡ n → at values 0 ≡ false → formula_level values f ≡ literal_level values n
+pub alone_level : (values : List Bool) (f : Formula) (n : ℕ) → f.first ≡ n → f.second ≡ 0 → f.third ≡ 0 → at values 0 ≡ false → formula_level values f ≡ literal_level values n
 alone_level values f n a b c low =
+    let x : literal_level values f.first ≡ literal_level values n = ap (λ z. literal_level values z) a in
+    let y : literal_level values f.second ≡ false = ap (λ z. literal_level values z) b ∙ low in
+    ap (λ z. z || (literal_level values f.second && literal_level values f.third)) x
+    ∙ (ap (λ z. literal_level values n || (z && literal_level values f.third)) y ∙ or_false (literal_level values n))
+
+-- a product of one literal, where place 0 is low
+pub only_factor_level : (values : List Bool) (f : Formula) (n : ℕ) → f.first ≡ 0 → f.second ≡ 1 → f.third ≡ n → at values 0 ≡ false → formula_level values f ≡ literal_level values n
+only_factor_level values f n a b c low =
     let x : literal_level values f.first ≡ false = ap (λ z. literal_level values z) a ∙ low in
     let y : literal_level values f.second ≡ true = ap (λ z. literal_level values z) b ∙ ap (λ z. not z) low in
     let w : literal_level values f.third ≡ literal_level values n = ap (λ z. literal_level values z) c in

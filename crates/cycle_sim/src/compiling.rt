@@ -29,6 +29,17 @@ fn other(literal: u32) -> u32
 
 // The formula of one literal.
 fn alone(literal: u32) -> Formula
+    ensures { result ≡ record { first = literal; second = 0; third = 0 } }
+{
+    Formula {
+        first: literal,
+        second: LOW,
+        third: LOW,
+    }
+}
+
+// The same as a product, whose first literal is low.
+fn only_factor(literal: u32) -> Formula
     ensures { result ≡ record { first = 0; second = 1; third = literal } }
 {
     Formula {
@@ -121,7 +132,7 @@ fn product_of(program: &mut Program, bit: &Bit) -> Result<Formula, NoMemory>
                 third,
             })
         }
-        _ => Ok(alone(literal_of(program, bit)?)),
+        _ => Ok(only_factor(literal_of(program, bit)?)),
     }
 }
 
@@ -138,7 +149,8 @@ fn formula_of(program: &mut Program, bit: &Bit) -> Result<Formula, NoMemory>
             let rest = product_of(program, y)?;
             Ok(Formula { first, ..rest })
         }
-        _ => product_of(program, bit),
+        Bit::And(_, _) => product_of(program, bit),
+        _ => Ok(alone(literal_of(program, bit)?)),
     }
 }
 

@@ -8,8 +8,8 @@ use crate::program::Program;
 use circuit::{Module, laws};
 use levels::{Levels, Marks};
 
-/// Gives each wire and output its expression's level, by the operations of all assigns.
-fn settle_all(m: &Module, program: &mut Program, levels: &mut Levels)
+/// Gives each wire and output its expression's level, by the operations of all assigns. Answers how many levels change.
+fn settle_all(m: &Module, program: &mut Program, levels: &mut Levels) -> usize
     requires plan { IsPlan m.now program.old }
     requires levels { HasAllLevels m.now levels.old }
     ensures same_plan { program.new ≡ program.old }
@@ -19,11 +19,12 @@ fn settle_all(m: &Module, program: &mut Program, levels: &mut Levels)
 {
     m.rules();
     laws::settles_in_order();
-    program.run(m, levels);
+    program.run(m, levels)
 }
 
-/// The same, where it isn't known which levels of the registers' operands changed: all registers are marked.
-pub fn settle_plainly(m: &Module, program: &mut Program, levels: &mut Levels, marks: &mut Marks)
+/// The same, where it isn't known which levels of the registers' operands changed: all registers are marked. Answers whether many
+/// levels change, so that a plain pass is likely to be the cheaper one in the next cycle too.
+pub fn settle_plainly(m: &Module, program: &mut Program, levels: &mut Levels, marks: &mut Marks) -> bool
     requires plan { IsPlan m.now program.old }
     requires levels { HasAllLevels m.now levels.old }
     requires room { length m.now.assigns + length m.now.regs ≤ 64 * length marks.old }
@@ -34,6 +35,12 @@ pub fn settle_plainly(m: &Module, program: &mut Program, levels: &mut Levels, ma
     ensures regs { levels.new.regs ≡ levels.old.regs }
     ensures room { length marks.new ≡ length marks.old }
 {
-    settle_all(m, program, levels);
+    let changed = settle_all(m, program, levels);
     marks.fill_from(m.assigns().len());
+    are_many(m, changed)
+}
+
+// Whether a plain pass is cheaper than marks where so many levels change: over one in eight.
+fn are_many(m: &Module, changed: usize) -> bool {
+    changed > m.assigns().len() / 8
 }

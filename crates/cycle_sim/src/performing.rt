@@ -7,6 +7,9 @@ ghost use Rattle.cycle_sim.specs.declared.operation.Tap.{Tap};
 use crate::operation::{Formula, Operation, Places, Tap};
 use levels::Levels;
 
+/// As many differences are counted in a byte.
+const FEW: usize = 128;
+
 // Writes levels into a list, from a place on.
 fn write(values: &mut [bool], place: usize, levels: &[bool])
     requires { place + length levels.now ≤ length values.old }
@@ -74,8 +77,36 @@ pub fn perform(values: &mut [bool], operations: &[Operation])
     }
 }
 
-/// Takes the levels of wires and outputs from their places: then the levels are those of any state that is there.
-pub fn store(values: &[bool], places: Places, levels: &mut Levels)
+// How many levels of two lists differ, of lists so short that a byte holds the number: several are counted at a time.
+fn count_few_differences(first: &[bool], second: &[bool]) -> u8
+    requires few { length first.now ≤ 128 }
+    ensures { result ≤ length first.now }
+{
+    let mut count: u8 = 0;
+    for (old, new) in first.iter().zip(second) {
+        count += (*old != *new) as u8;
+    }
+    count
+}
+
+// How many levels of two lists differ.
+fn count_differences(first: &[bool], second: &[bool]) -> usize
+    requires { length first.now ≡ length second.now }
+    ensures { result ≤ length first.now }
+{
+    let mut count = 0;
+    let mut from = 0;
+    while from < first.len() {
+        let to = first.len().min(from + FEW);
+        count += count_few_differences(&first[from..to], &second[from..to]) as usize;
+        from = to;
+    }
+    count
+}
+
+/// Takes the levels of wires and outputs from their places: then the levels are those of any state that is there. Answers how many
+/// of them change.
+pub fn store(values: &[bool], places: Places, levels: &mut Levels) -> usize
     requires room { free_place places ≤ length values.now }
     requires wires { length levels.old.wires ≡ places.wires }
     requires outs { length levels.old.outs ≡ places.outs }
@@ -83,6 +114,11 @@ pub fn store(values: &[bool], places: Places, levels: &mut Levels)
 {
     let wires = 1 + places.inputs as usize;
     let outs = wires + places.wires as usize;
-    levels.set_wires(&values[wires..outs]);
-    levels.set_outs(&values[outs..outs + places.outs as usize]);
+    let new_wires = &values[wires..outs];
+    let new_outs = &values[outs..outs + places.outs as usize];
+    let changed = count_differences(levels.wires(), new_wires)
+        + count_differences(levels.outs(), new_outs);
+    levels.set_wires(new_wires);
+    levels.set_outs(new_outs);
+    changed
 }

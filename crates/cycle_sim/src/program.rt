@@ -107,8 +107,9 @@ impl Program {
         Ok(())
     }
 
-    /// Gives each wire and output its expression's level, by activations of all assigns in order.
-    pub fn run(&mut self, m: &Module, levels: &mut Levels)
+    /// Gives each wire and output its expression's level, by activations of all assigns in order. Answers how many levels of wires
+    /// and outputs change.
+    pub fn run(&mut self, m: &Module, levels: &mut Levels) -> usize
         requires plan { IsPlan m.now self.old }
         requires levels { HasAllLevels m.now levels.old }
         ensures same_plan { self.new ≡ self.old }
@@ -118,7 +119,7 @@ impl Program {
         load(self.values.as_mut_slice(), self.places, levels);
         load_taps(self.values.as_mut_slice(), &self.taps, levels);
         perform(self.values.as_mut_slice(), &self.operations);
-        store(&self.values, self.places, levels);
+        store(&self.values, self.places, levels)
     }
 }
 

@@ -44,14 +44,16 @@ fn settle_marked(
 }
 
 /// Gives each wire and output its expression's level, where only marked assigns may lack it. Marks cost more than a
-/// plain pass where many assigns are marked, or come to be, so then a plain pass is made.
+/// plain pass where many assigns are marked, or come to be, or where much changed at the last plain pass (`changing`), so then a
+/// plain pass is made. Answers whether much changed at it.
 pub fn settle(
     m: &Module,
     readers: &Readers,
     program: &mut Program,
     levels: &mut Levels,
     marks: &mut Marks,
-)
+    changing: bool,
+) -> bool
     requires plan { IsPlan m.now program.old }
     requires levels { HasAllLevels m.now levels.old }
     requires readers { AreReaders m.now readers.now.starts.items readers.now.lists }
@@ -65,9 +67,11 @@ pub fn settle(
     ensures room { length marks.new ≡ length marks.old }
 {
     let count = m.assigns().len();
-    let most = most_marked(m, marks);
+    let most = if changing {
+        0
+    } else {
+        most_marked(m, marks)
+    };
     let next = settle_marked(m, readers, levels, marks, most);
-    if next < count {
-        settle_plainly(m, program, levels, marks);
-    }
+    next < count && settle_plainly(m, program, levels, marks)
 }

@@ -17,7 +17,8 @@ use std::marker::Model;
 /// A simulation of a module. It is either not yet started, or in a cycle with all levels settled.
 ///
 /// `started` is whether a step was made, and `quiet` that the next one changes nothing if the inputs don't. `busy` is whether many
-/// registers changed at the last clock edge. `program` gives all wires and outputs their levels. `marks` are the assigns and registers that may not be up to date.
+/// registers changed at the last clock edge, and `changing` whether many wires and outputs did at the last settling. `program` gives all
+/// wires and outputs their levels. `marks` are the assigns and registers that may not be up to date.
 /// `moving` and `firsts` are room for the registers that change at a clock edge, and what they take.
 #[derive(Drop)]
 pub struct Sim<'a> {
@@ -25,6 +26,7 @@ pub struct Sim<'a> {
     started: bool,
     quiet: bool,
     busy: bool,
+    changing: bool,
     levels: Levels,
     readers: Readers,
     program: Program,
@@ -62,6 +64,7 @@ impl<'a> Sim<'a> {
             started: false,
             quiet: false,
             busy: false,
+            changing: false,
             levels: Levels::low(alloc, m)?,
             readers: readers_of(alloc, m)?,
             program: compile(alloc, m)?,
@@ -105,12 +108,13 @@ impl<'a> Sim<'a> {
             self.busy = is_busy(m, changed);
         }
         set_inputs(m, &self.readers, &mut self.levels, &mut self.marks, inputs);
-        settle(
+        self.changing = settle(
             m,
             &self.readers,
             &mut self.program,
             &mut self.levels,
             &mut self.marks,
+            self.changing,
         );
         self.started = true;
         self.quiet = is_quiet(m, &self.marks);

@@ -2,7 +2,7 @@ use Rattle.std.proofs.Common.{◌<◌, ◌/◌, ap, subst, arith}
 use Rattle.circuit.specs.View.{logic}
 use Rattle.cycle_sim.specs.Operations.{literal_level, Computes}
 use Rattle.cycle_sim.specs.declared.operation.Formula.{Formula}
-use Rattle.cycle_sim.proofs.Compiled.{alone_within, alone_computes, and_computes}
+use Rattle.cycle_sim.proofs.Compiled.{only_factor_within, only_factor_computes, and_computes}
 use Rattle.cycle_sim.proofs.compiling.product_of.Goals as goal
 
 pub returns-in_ok-third-in-And-clause-computes : goal.returns-in_ok-third-in-And-clause-computes
@@ -27,8 +27,8 @@ returns-in_ok-literal_of-in_default c =
     let n = c.in_ok-literal_of-in_default.field-0 in
     let lt : n / 2 < r.room = c.in_ok-literal_of-in_default.ensures.within in
     record {
-      low = ap (λ (f : Formula). f.first) c.alone.ensures;
-      within = alone_within r.room n c.alone.result c.alone.ensures (omega (arith, lt)) lt;
+      low = ap (λ (f : Formula). f.first) c.only_factor.ensures;
+      within = only_factor_within r.room n c.only_factor.result c.only_factor.ensures (omega (arith, lt)) lt;
       places = c.in_ok-literal_of-in_default.ensures.places;
-      computes = alone_computes p r c.alone.result n (logic c.args.bit.now) c.alone.ensures c.in_ok-literal_of-in_default.ensures.computes;
+      computes = only_factor_computes p r c.only_factor.result n (logic c.args.bit.now) c.only_factor.ensures c.in_ok-literal_of-in_default.ensures.computes;
     }

@@ -24,8 +24,8 @@ record Kept (m : Circuit) (sim : Inside) : Type 0 where
   next_room : length sim.firsts.items ≡ length m.regs
   none : (r : ℕ) → r < length m.regs → IsUnmarked sim.moving r
 
-pub settle-requires-clause-levels : goal.settle-requires-clause-levels
-settle-requires-clause-levels c =
+pub settle-self-inside-requires-clause-levels : goal.settle-self-inside-requires-clause-levels
+settle-self-inside-requires-clause-levels c =
     let m = c.self.inside.module.now in
     let levels : HasAllLevels m c.if-self.self-inside.levels =
     elim c.if-self.branch [
@@ -69,17 +69,17 @@ invariant_of-self c =
     let long : length c.args.inputs.now ≡ length m.inputs = c.requires ∙ ap (λ (s : Standing). length s.circuit.inputs) (sym c.self.view_is) in
     let s = c.if-self.self-inside in
     rw kept.circuit (record {
-      levels = levels_after m s.levels c.set_inputs.new.levels c.settle.new.levels c.args.inputs.now kept.levels long c.set_inputs.ensures.state c.settle.ensures.settled
-          c.settle.ensures.inputs c.settle.ensures.regs;
+      levels = levels_after m s.levels c.set_inputs.new.levels c.settle-self-inside.new.levels c.args.inputs.now kept.levels long c.set_inputs.ensures.state c.settle-self-inside.ensures.settled
+          c.settle-self-inside.ensures.inputs c.settle-self-inside.ensures.regs;
       readers = kept.readers;
       taps = kept.taps;
-      program = subst (λ z. IsPlan m z) (sym c.settle.ensures.same_plan) kept.program;
-      room = omega (arith, kept.room, c.set_inputs.ensures.room, c.settle.ensures.room);
+      program = subst (λ z. IsPlan m z) (sym c.settle-self-inside.ensures.same_plan) kept.program;
+      room = omega (arith, kept.room, c.set_inputs.ensures.room, c.settle-self-inside.ensures.room);
       moving_room = kept.moving_room;
       next_room = kept.next_room;
       none = kept.none;
-      up_to_date = c.settle.ensures.up_to_date;
+      up_to_date = c.settle-self-inside.ensures.up_to_date;
       at_start = λ e. absurd (cc);
-      settled = λ e. c.settle.ensures.settled;
+      settled = λ e. c.settle-self-inside.ensures.settled;
       rests = λ e. (refl, c.is_quiet-self-inside.ensures e);
     })
