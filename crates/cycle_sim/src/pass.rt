@@ -24,7 +24,12 @@ fn settle_all(m: &Module, program: &mut Program, levels: &mut Levels) -> usize
 
 /// The same, where it isn't known which levels of the registers' operands changed: all registers are marked. Answers whether many
 /// levels change, so that a plain pass is likely to be the cheaper one in the next cycle too.
-pub fn settle_plainly(m: &Module, program: &mut Program, levels: &mut Levels, marks: &mut Marks) -> bool
+pub fn settle_plainly(
+    m: &Module,
+    program: &mut Program,
+    levels: &mut Levels,
+    marks: &mut Marks,
+) -> bool
     requires plan { IsPlan m.now program.old }
     requires levels { HasAllLevels m.now levels.old }
     requires room { length m.now.assigns + length m.now.regs ≤ 64 * length marks.old }

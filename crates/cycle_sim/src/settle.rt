@@ -67,11 +67,7 @@ pub fn settle(
     ensures room { length marks.new ≡ length marks.old }
 {
     let count = m.assigns().len();
-    let most = if changing {
-        0
-    } else {
-        most_marked(m, marks)
-    };
+    let most = if changing { 0 } else { most_marked(m, marks) };
     let next = settle_marked(m, readers, levels, marks, most);
     next < count && settle_plainly(m, program, levels, marks)
 }

@@ -198,5 +198,5 @@ pub fn clock_edge(
 /// Whether so many registers that change are many.
 pub fn is_busy(m: &Module, changed: usize) -> bool {
     few_items(m);
-    changed > (m.assigns().len() + m.regs().len()) / 4
+    changed > (m.assigns().len() + m.regs().len()) / 8
 }
