@@ -4,11 +4,14 @@
     python3 bench/sim.py PROGRAM [SIZE ..]
 
 PROGRAM is the built racelog. For each SIZE (1,024, 4,096 and 16,384 operators where none are given) it compiles the network of
-bench.py and simulates the module for 64 and for 100,000 cycles; then two modules of the largest SIZE: `toggles`, in which
-every register and every wire changes in each cycle, and `long`, one shift register of 65,536 bits.
+bench.py and simulates the module for 64 and for 100,000 cycles; then modules of the largest SIZE in which much changes: `toggles`,
+in which every register and every wire changes in each cycle, `chain` and `mixed`, chains of wires of one operand and of three that
+change in each cycle, `rings`, of three registers of which one changes in each cycle, with wires over them, and `registers`, which
+all change, without wires; and `long`, one shift register of 65,536 bits.
 
 It prints the least seconds of five runs (of one, where that takes over 5 s), the same with `--order 0`, the most memory in MiB,
-and memory in bytes for each byte of the module's text. For a peer it prints the seconds to build and to run the same module with
+and memory in bytes for each byte of the module's text. Where rustc is installed, `plain` is plain.rs, which walks all expressions in
+each cycle: its seconds, and how many times as long `sim` takes. For another peer it prints the seconds to build and to run the same module with
 the same inputs, and whether all levels are the same. verilator is run with a C++ main of its own at -O3, which prints the levels
 of each cycle. A peer that takes over LIMIT seconds to build or to run is given as `-`.
 """
@@ -38,6 +41,41 @@ def toggles(size):
     lines += ["  assign out_y = w%d;" % (wires - 1)]
     lines += ["  always @(posedge clk) if (rst) r%d <= 1'b0; else r%d <= ~r%d;" % (k, k, k) for k in range(regs)]
     return "\n".join(lines + ["endmodule", ""])
+
+
+def module_of(wires, regs, assigns, nexts):
+    """A module of one input and one output, with these wires and registers, assigns, and next levels of the registers."""
+    ports = "".join("  %s;\n" % port for port in ("input clk", "input rst", "input in_a", "output out_y"))
+    lines = ["module race(clk, rst, in_a, out_y);\n" + ports[:-1]]
+    lines += ["  wire w%d;" % k for k in range(wires)] + ["  reg r%d;" % k for k in range(regs)]
+    lines += ["  assign %s = %s;" % assign for assign in assigns]
+    lines += ["  always @(posedge clk) if (rst) r%d <= 1'b0; else r%d <= %s;" % (k, k, bit) for k, bit in enumerate(nexts)]
+    return "\n".join(lines + ["endmodule", ""])
+
+
+def chain(size):
+    """A chain of wires over a register that changes in each cycle."""
+    assigns = [("w%d" % k, "~w%d" % (k - 1) if k else "~r0") for k in range(size)]
+    return module_of(size, 1, assigns + [("out_y", "w%d" % (size - 1))], ["~r0"])
+
+
+def mixed(size):
+    """The same, of wires that name a register that stays low too."""
+    assigns = [("w%d" % k, "w%d & ~r1 | r1" % (k - 1) if k else "~r0") for k in range(size)]
+    return module_of(size, 2, assigns + [("out_y", "w%d" % (size - 1))], ["~r0", "r1"])
+
+
+def rings(size):
+    """Rings of three registers, in each of which one changes in each cycle, and a wire over each."""
+    count = size // 4
+    nexts = [("~r%d" % (k + 2) if k % 3 == 0 else "r%d" % (k - 1)) for k in range(3 * count)]
+    assigns = [("w%d" % k, "r%d & ~r%d" % (3 * k, 3 * k + 2)) for k in range(count)]
+    return module_of(count, 3 * count, assigns + [("out_y", "w0")], nexts)
+
+
+def registers(size):
+    """Registers that change in each cycle."""
+    return module_of(0, size, [("out_y", "r0")], ["~r%d" % k for k in range(size)])
 
 
 def long_network():
@@ -123,6 +161,12 @@ def measure(program, label, module, inputs, outputs, rises, cycles, folder):
     ordered, _ = bench.run([program, "sim", module, str(cycles)] + rises + ["--order", "0"], os.path.join(folder, "ordered"))
     size = os.path.getsize(module)
     line = "%-14s %9d %7d  %8.4f  %8.4f  %s  %5.1f" % (label, size, cycles, seconds, ordered, bench.shown(memory), memory * 1048576 / size)
+    plain = os.path.join(folder, "plain")
+    if os.path.exists(plain):
+        walked, _ = bench.run([plain, module, str(cycles)] + rises, os.path.join(folder, "walked"))
+        with open(levels) as ours, open(os.path.join(folder, "walked")) as theirs:
+            same = "same" if ours.read() == theirs.read() else "DIFFERENT"
+        line += "  plain: %9.4f, times %5.2f %s" % (walked, seconds / walked, same)
     if shutil.which("iverilog"):
         with open(os.path.join(folder, "bench.v"), "w") as to:
             to.write(test_bench(inputs, outputs, rises, cycles))
@@ -142,6 +186,9 @@ def main():
     print("module             bytes  cycles   seconds   order 0     MiB  MiB a MiB of text")
     with tempfile.TemporaryDirectory() as folder:
         module = os.path.join(folder, "module.v")
+        if shutil.which("rustc"):
+            source = os.path.join(os.path.dirname(os.path.abspath(__file__)), "plain.rs")
+            subprocess.run(["rustc", "-O", "-o", os.path.join(folder, "plain"), source], check=True)
         network = os.path.join(folder, "network")
         names = ["a%d" % i for i in range(bench.INPUTS)], ["y%d" % o for o in range(bench.OUTPUTS)]
         for size in sizes:
@@ -150,10 +197,11 @@ def main():
             bench.run([program, "compile", network], module)
             for cycles in (FEW, MANY):
                 measure(program, "network %d" % size, module, names[0], names[1], bench.times(), cycles, folder)
-        with open(module, "w") as to:
-            to.write(toggles(max(sizes)))
-        for cycles in (FEW, 10000):
-            measure(program, "toggles", module, ["a"], ["y"], ["3"], cycles, folder)
+        for made in (toggles, chain, mixed, rings, registers):
+            with open(module, "w") as to:
+                to.write(made(max(sizes)))
+            for cycles in (FEW, 10000):
+                measure(program, made.__name__, module, ["a"], ["y"], ["3"], cycles, folder)
         with open(network, "w") as to:
             to.write(long_network())
         bench.run([program, "compile", network], module)
