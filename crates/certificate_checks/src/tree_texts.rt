@@ -17,21 +17,6 @@ fn check_printed(rt: &impl Abort, alloc: Global, text: &[u8], printed: &[u8]) ->
     Ok(())
 }
 
-fn check_refused(rt: &impl Abort, alloc: Global, text: &[u8], error: TreeError)
-    requires { length text.now ≤ 67108864 }
-{
-    assert_eq!(rt; read_tree(alloc, text).err(), Some(error));
-}
-
-/// A tree of these lines, the first of which is line 3, has this error.
-fn check_lines(rt: &impl Abort, alloc: Global, lines: &[u8], error: TreeError) -> Result<(), Fail> {
-    let mut text = Vec::from_slice(alloc, b"racetree 1\ntree y\n")?;
-    text.extend_from_slice(lines)?;
-    assert!(rt; text.len() <= 67108864);
-    check_refused(rt, alloc, &text, error);
-    Ok(())
-}
-
 /// A tree whose items are written so many times, with these lines before and after, has this error; none where there is
 /// none.
 fn check_many(
@@ -71,63 +56,11 @@ fn trees_are_read_and_printed(rt: HostRuntime) -> Result<(), Fail> {
 }
 
 #[test]
-fn the_form_of_each_line_is_judged(rt: HostRuntime) -> Result<(), Fail> {
-    let alloc = rt.alloc();
-    let syntax = TreeError::Syntax;
-    check_refused(&rt, alloc, b"", syntax(1));
-    check_refused(&rt, alloc, b"racetree 2\n", syntax(1));
-    check_refused(&rt, alloc, b"racetree 1\n", syntax(2));
-    check_refused(&rt, alloc, b"racetree 1\nend\n", syntax(2));
-    check_refused(&rt, alloc, b"racetree 1\ntree y z\n", syntax(2));
-    check_refused(&rt, alloc, b"racetree 1\n?", syntax(2));
-    check_lines(&rt, alloc, b"", syntax(3))?;
-    check_lines(&rt, alloc, b"end\n", syntax(3))?;
-    check_lines(&rt, alloc, b"fact 0 1 0 : 0\n", syntax(3))?;
-    check_lines(&rt, alloc, b"open\nfact 0 1 0 : 0\n", syntax(4))?;
-    check_lines(&rt, alloc, b"open\n", syntax(4))?;
-    check_lines(&rt, alloc, b"open\ntree z\n", syntax(4))?;
-    check_lines(&rt, alloc, b"open\nend\nopen\n", syntax(5))?;
-    check_lines(&rt, alloc, b"split 0 1\n", syntax(3))?;
-    check_lines(&rt, alloc, b"split 0 1 01\n", syntax(3))?;
-    check_lines(&rt, alloc, b"split 0 1 -> 1\n", syntax(3))?;
-    check_lines(&rt, alloc, b"split 0 1 1 1\n", syntax(3))?;
-    check_lines(&rt, alloc, b"leaf 1\n", syntax(3))?;
-    check_lines(&rt, alloc, b"leaf\nfact 0 1 0 0\n", syntax(4))?;
-    check_lines(&rt, alloc, b"leaf\nfact 0 1 0 : a\n", syntax(4))?;
-    check_lines(&rt, alloc, b"closed 65536 -1\n", syntax(3))?;
-    check_lines(&rt, alloc, b"closed 00\n", syntax(3))
-}
-
-#[test]
-fn numbers_are_judged(rt: HostRuntime) -> Result<(), Fail> {
-    let alloc = rt.alloc();
-    let range = TreeError::Range;
-    check_lines(&rt, alloc, b"split 64 0 0\n", range(3))?;
-    check_lines(&rt, alloc, b"split 0 64 0\n", range(3))?;
-    check_lines(&rt, alloc, b"split 0 0 100000001\n", range(3))?;
-    check_lines(&rt, alloc, b"split 0 0 -100000001\n", range(3))?;
-    check_lines(
-        &rt,
-        alloc,
-        b"leaf\nfact 0 18446744073709551616 0 :\n",
-        range(4),
-    )?;
-    check_lines(&rt, alloc, b"leaf\nfact 0 0 0 : 0 65536\n", range(4))?;
-    check_lines(&rt, alloc, b"closed 0 65536\n", range(3))
-}
-
-#[test]
 fn lengths_are_judged(rt: HostRuntime) -> Result<(), Fail> {
     let alloc = rt.alloc();
-    let (long, count, range) = (TreeError::Long, TreeError::Count, TreeError::Range);
+    let (long, count) = (TreeError::Long, TreeError::Count);
     let tree = b"racetree 1\ntree y\n";
-    let closed = b"racetree 1\ntree y\nclosed";
     let leaf = b"racetree 1\ntree y\nleaf\n";
-    let fact = b"racetree 1\ntree y\nleaf\nfact 0 0 0 :";
-    check_many(&rt, alloc, closed, b" 1", 64, b"\nend\n", None)?;
-    check_many(&rt, alloc, closed, b" 1", 65, b"\nend\n", Some(long(3)))?;
-    check_many(&rt, alloc, closed, b" 1", 65, b" 65536\n", Some(range(3)))?;
-    check_many(&rt, alloc, fact, b" 1", 65, b"\nend\n", Some(long(4)))?;
     check_many(&rt, alloc, leaf, b"fact 0 0 0 :\n", 4096, b"end\n", None)?;
     check_many(
         &rt,
@@ -157,25 +90,4 @@ fn lengths_are_judged(rt: HostRuntime) -> Result<(), Fail> {
         b"end\n",
         Some(count(1000003)),
     )
-}
-
-#[test]
-fn names_are_judged(rt: HostRuntime) -> Result<(), Fail> {
-    let alloc = rt.alloc();
-    let count = TreeError::Count;
-    check_refused(&rt, alloc, b"racetree 1\ntree _y\n", count(2));
-    check_refused(&rt, alloc, b"racetree 1\ntree min\n", count(2));
-    check_lines(&rt, alloc, b"open\nend\ntree y\n", count(5))?;
-    let mut text = Vec::from_slice(alloc, b"racetree 1\n")?;
-    for number in 0..65_u32 {
-        assert!(rt; text.len() <= 67108864);
-        if number == 64 {
-            assert!(rt; read_tree(alloc, &text).is_ok());
-        }
-        let lines = format!(in alloc; "tree y{number}\nopen\nend\n")?;
-        text.extend_from_slice(lines.as_bytes())?;
-    }
-    assert!(rt; text.len() <= 67108864);
-    check_refused(&rt, alloc, &text, count(194));
-    Ok(())
 }

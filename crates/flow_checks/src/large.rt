@@ -1,34 +1,10 @@
-//! Large networks that are made from numbers, through `run`.
-use crate::commands::{EASY, expect, expect_values, output_of};
+//! A large network that is made from numbers, and many cycles, through `run`.
+use crate::commands::output_of;
 use big_input::big_input;
 use net_model::print_network;
-use rl_flow::Status;
 use rl_time::{Time, read_time};
 use std::alloc::Global;
 use std::test::Fail;
-
-#[test]
-fn large_networks_are_compiled_and_simulated(rt: HostRuntime) -> Result<(), Fail> {
-    let alloc = rt.alloc();
-    let one = b"operators 1\ngates 1\nbits 1\noutputs 1\nrisen 1\nagree 1\n";
-    expect_values(&rt, alloc, b"", &["big", "1"], one)?;
-    let all = b"operators 16384\ngates 1138\nbits 962\noutputs 64\nrisen 27\nagree 64\n";
-    expect_values(&rt, alloc, b"", &["big", "16384"], all)
-}
-
-#[test]
-fn refuses_other_numbers(rt: HostRuntime) -> Result<(), Fail> {
-    let want = (
-        Status::Words,
-        b"".as_slice(),
-        b"racelog: usage\n".as_slice(),
-    );
-    expect(&rt, rt.alloc(), b"", &["big"], &EASY, want)?;
-    for number in ["0", "01", "16385", "-1", "never", "f"] {
-        expect(&rt, rt.alloc(), b"", &["big", number], &EASY, want)?;
-    }
-    expect(&rt, rt.alloc(), b"", &["big", "1", "1"], &EASY, want)
-}
 
 // The lines of these values as levels: a digit for each of 64 cycles.
 fn levels_of(alloc: Global, values: &[u8]) -> Result<Vec<u8>, Fail> {
@@ -69,5 +45,28 @@ fn the_largest_network_behaves_as_it_is_valued(rt: HostRuntime) -> Result<(), Fa
     let module = str::from_utf8(&module).ok().ok_or("no text")?;
     let wires = module.lines().filter(|line| line.starts_with("  wire "));
     assert_eq!(rt; wires.count(), 1138);
+    Ok(())
+}
+
+const DELAY_MODULE: &[u8] = b"module race(clk, rst, in_a, out_y);
+input clk; input rst; input in_a; output out_y; // one cycle later
+reg r; assign out_y = r;
+always @(posedge clk) if (rst) r <= 1'b0; else r <= in_a;
+endmodule";
+
+// The name y, so many digits 0, and so many digits 1.
+fn row(alloc: Global, low: usize, high: usize) -> Result<Vec<u8>, Fail> {
+    let mut text = b"y ".to_vec(alloc)?;
+    text.extend_from_slice(&vec![in alloc; b'0'; low]?)?;
+    text.extend_from_slice(&vec![in alloc; b'1'; high]?)?;
+    text.extend_from_slice(b"\n")?;
+    Ok(text)
+}
+
+#[test]
+fn as_many_cycles_as_there_may_be(rt: HostRuntime) -> Result<(), Fail> {
+    let alloc = rt.alloc();
+    let levels = output_of(&rt, alloc, DELAY_MODULE, &["sim", "f", "100000", "99990"])?;
+    assert_eq!(rt; levels, row(alloc, 99991, 9)?);
     Ok(())
 }

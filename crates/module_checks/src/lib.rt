@@ -6,10 +6,4 @@ mod cycles;
 #[cfg(test)]
 mod events;
 #[cfg(test)]
-mod parts;
-#[cfg(test)]
-mod printing;
-#[cfg(test)]
 mod reading;
-#[cfg(test)]
-mod syntax;

@@ -46,57 +46,6 @@ fn check_values(
 }
 
 #[test]
-fn operators_at_numbers_ties_and_never(rt: HostRuntime) -> Result<(), Fail> {
-    let never = Time::Never;
-    let text = b"racenet 1
-input a b
-output lo = min(a, b)
-output hi = max(a, b)
-output first = lt(a, b)
-output late = inc(a, 1000000)
-";
-    let network = read_network(rt.alloc(), text)?;
-    let rows = [
-        (
-            Time::At(3),
-            Time::At(5),
-            [Time::At(3), Time::At(5), Time::At(3), Time::At(1000003)],
-        ),
-        (
-            Time::At(5),
-            Time::At(3),
-            [Time::At(3), Time::At(5), never, Time::At(1000005)],
-        ),
-        (
-            Time::At(4),
-            Time::At(4),
-            [Time::At(4), Time::At(4), never, Time::At(1000004)],
-        ),
-        (
-            Time::At(4),
-            never,
-            [Time::At(4), never, Time::At(4), Time::At(1000004)],
-        ),
-        (never, Time::At(4), [Time::At(4), never, never, never]),
-        (never, never, [never, never, never, never]),
-        (
-            Time::At(1000000000000),
-            Time::At(0),
-            [
-                Time::At(0),
-                Time::At(1000000000000),
-                never,
-                Time::At(1000001000000),
-            ],
-        ),
-    ];
-    for (a, b, wanted) in rows {
-        check_values(&rt, rt.alloc(), &network, &[a, b], &wanted)?;
-    }
-    Ok(())
-}
-
-#[test]
 fn a_race_of_three(rt: HostRuntime) -> Result<(), Fail> {
     let never = Time::Never;
     let text = b"racenet 1
