@@ -28,6 +28,8 @@ fn steps_go_to_the_next_cycle(rt: HostRuntime) -> Result<(), Fail> {
     assert_eq!(rt; (sim.level(0), sim.is_quiet()), (true, false));
     sim.step(&[true, true]);
     sim.step(&[true, true]);
+    sim.step(&[true, true]);
+    sim.step(&[true, true]);
     assert_eq!(rt; sim.outs(), [true].as_slice());
     assert!(rt; sim.is_quiet());
     Ok(())
