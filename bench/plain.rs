@@ -206,7 +206,8 @@ impl Levels {
 
     fn shift(&mut self, reg: usize, level: bool) {
         let bits = &mut self.regs[reg];
-        bits.copy_within(..bits.len() - 1, 1);
+        let kept = bits.len() - 1;
+        bits.copy_within(..kept, 1);
         bits[0] = level;
     }
 
