@@ -76,6 +76,11 @@ pub record Plan : Type 0 where
 abbrev pub plan : Places → List Operation → List Tap → List Bool → Plan
 plan places operations taps values = record { places = places; operations = operations; taps = taps; room = length values }
 
+-- a tap of the register's bit is at the place
+pub record HasTap (p : Plan) (reg bit to : ℕ) : Type 0 where
+  pub index : ℕ
+  pub tap : slice_get p.taps index ≡ Some (record { to = to; reg = reg; bit = bit })
+
 -- the plan with a tap at a new place
 abbrev pub with_tap : Plan → ℕ → ℕ → Plan
 with_tap p reg bit = record p { taps = p.taps ++ record { to = p.room; reg = reg; bit = bit } ∷ []; room = p.room + 1 }

@@ -64,6 +64,22 @@ fn operated(program: &mut Program, formula: Formula) -> Result<u32, NoMemory>
     Ok(2 * to)
 }
 
+// A literal with the level of a bit of a register: of the last tap, where that is of this bit, since an expression often names a bit
+// twice, and else of a new one.
+fn tapped(program: &mut Program, reg: u32, bit: u32) -> Result<u32, NoMemory>
+    ensures within { IfOk result (λ n. n / 2 < program.new.room) }
+    ensures places { OnOk result (program.new.places ≡ program.old.places) }
+    ensures computes { IfOk result (λ n. Computes program.old program.new (λ values. literal_level values n) (spec.Reg reg bit)) }
+{
+    program.rules();
+    if let Some(to) = program.last_tap(reg, bit) {
+        return Ok(2 * to);
+    }
+    let to = program.tap(reg, bit)?;
+    program.rules();
+    Ok(2 * to)
+}
+
 // A literal with the level of an expression. Adds the operations and taps of its parts. It answers a number and not a formula, so that it
 // needs little of the stack for each part that it goes down to.
 fn literal_of(program: &mut Program, bit: &Bit) -> Result<u32, NoMemory>
@@ -78,11 +94,7 @@ fn literal_of(program: &mut Program, bit: &Bit) -> Result<u32, NoMemory>
         Bit::One => Ok(HIGH),
         Bit::Input(input) => Ok(2 * (1 + *input)),
         Bit::Wire(wire) => Ok(2 * program.target(Target::Wire(*wire))),
-        Bit::Reg(reg, place) => {
-            let to = program.tap(*reg, *place)?;
-            program.rules();
-            Ok(2 * to)
-        }
+        Bit::Reg(reg, place) => tapped(program, *reg, *place),
         Bit::Not(x) => {
             let literal = literal_of(program, x)?;
             Ok(other(literal))

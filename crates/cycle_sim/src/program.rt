@@ -1,7 +1,7 @@
-ghost use Rattle.std.specs.Prelude.{◌≡◌, ◌≢◌, ◌≤◌, ◌<◌, ◌+◌, ◌*◌, ◌/◌, ◌^◌, ◌++◌, ◌∷◌, [], ℕ, length, slice_get, Some, OnOk, IfOk};
+ghost use Rattle.std.specs.Prelude.{◌≡◌, ◌≢◌, ◌≤◌, ◌<◌, ◌+◌, ◌*◌, ◌/◌, ◌^◌, ◌++◌, ◌∷◌, [], ℕ, length, slice_get, Some, OnOk, IfOk, IfSome};
 ghost use Rattle.circuit.specs.Meaning.{activate_all, upto};
 ghost use Rattle.levels.specs.Levels.{HasAllLevels};
-ghost use Rattle.cycle_sim.specs.Operations.{ArePlaces, IsPlaced, target_place, IsSound, IsWithin, IsPlan, with_tap, with_operation};
+ghost use Rattle.cycle_sim.specs.Operations.{ArePlaces, IsPlaced, target_place, IsSound, IsWithin, IsPlan, HasTap, with_tap, with_operation};
 ghost use Rattle.cycle_sim.specs.declared.operation.Tap.{Tap};
 
 use crate::operation::{Formula, Operation, Places, Tap};
@@ -94,6 +94,23 @@ impl Program {
         let to = add_place(&mut self.values)?;
         self.taps.push(Tap { to, reg, bit })?;
         Ok(to)
+    }
+
+    /// The place of the last tap, where it is of this bit of a register.
+    pub fn last_tap(&self, reg: u32, bit: u32) -> Option<u32>
+        ensures tap { IfSome result (λ to. HasTap self.now reg bit to) }
+        ensures few { IfSome result (λ to. to < 2 ^ 31) }
+    {
+        let count = self.taps.len();
+        if count == 0 {
+            return None;
+        }
+        let tap = self.taps[count - 1];
+        if tap.reg == reg && tap.bit == bit {
+            Some(tap.to)
+        } else {
+            None
+        }
     }
 
     /// Adds an operation.

@@ -4,7 +4,7 @@ use Rattle.circuit.specs.Circuit as l
 use Rattle.circuit.specs.View.{logic}
 use Rattle.cycle_sim.specs.Operations.{at, literal_level, Fits, Computes}
 use Rattle.cycle_sim.proofs.Operated.{literal_even}
-use Rattle.cycle_sim.proofs.Planned.{reads, at_once, by_tap}
+use Rattle.cycle_sim.proofs.Planned.{at_once}
 use Rattle.cycle_sim.proofs.Compiled.{not_computes, and_computes, or_computes}
 use Rattle.cycle_sim.proofs.compiling.+literal_of.Goals as goal
 
@@ -34,17 +34,6 @@ returns-in-Wire-clause-computes t c =
     let lt : w < p.places.wires = subst (λ b. Fits p.places (logic b)) c.in-Wire.is c.requires in
     rw c.in-Wire.is (at_once p (λ values. literal_level values (2 * n)) (l.Wire w) c.rules.ensures
     (λ s values rep. literal_even values n ∙ (ap (λ z. at values z) c.target.ensures ∙ rep.laid.wires w lt)))
-
-pub returns-in_ok-to-in-Reg-clause-computes : goal.returns-in_ok-to-in-Reg-clause-computes
-returns-in_ok-to-in-Reg-clause-computes t c =
-    let p = c.args.program.now in
-    let q = c.tap.new.self in
-    let to = c.in_ok-to-in-Reg.to in
-    let r = c.in-Reg.reg in
-    let k = c.in-Reg.place in
-    rw c.in-Reg.is (reads p q (λ values. at values p.room) (λ values. literal_level values (2 * to)) (l.Reg r k)
-    (λ values low. literal_even values to ∙ ap (λ n. at values n) c.in_ok-to-in-Reg.ensures.place)
-    (by_tap p q r k c.rules.ensures c.rules-in-Reg.ensures c.in_ok-to-in-Reg.ensures.tap))
 
 pub returns-in_ok-literal-in-Not-clause-computes : goal.returns-in_ok-literal-in-Not-clause-computes
 returns-in_ok-literal-in-Not-clause-computes t c =
