@@ -9,6 +9,7 @@ pub mod Marks
 pub mod PortNames
 pub mod Risen
 pub mod OneTiming
+pub mod SomeTiming
 pub mod Generic
 pub mod TappedForm
 pub mod Order

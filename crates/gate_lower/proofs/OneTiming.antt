@@ -19,13 +19,13 @@ use Rattle.gate_lower.proofs.Risen.{risen_min, risen_max, risen_lt, risen_inc-su
 
 -- ---- times by their levels
 
-self_risen : (m : ℕ) → nat_le m m ≡ true
+pub self_risen : (m : ℕ) → nat_le m m ≡ true
 self_risen m = grind (arith, nat_tests)
 
-risen_le : (m n : ℕ) → nat_le m n ≡ true → m ≤ n
+pub risen_le : (m n : ℕ) → nat_le m n ≡ true → m ≤ n
 risen_le m n e = grind (arith, nat_tests)
 
-same_number : (m n : ℕ) → m ≤ n → n ≤ m → m ≡ n
+pub same_number : (m n : ℕ) → m ≤ n → n ≤ m → m ≡ n
 same_number m n a b = omega (arith, a, b)
 
 times_same : (a b : Time) → ((t : ℕ) → has_risen a t ≡ has_risen b t) → a ≡ b
@@ -40,7 +40,7 @@ inc_same a b zero t h = ap (λ (z : Time). has_risen z t) (time_inc-zero a) ∙ 
 inc_same a b (suc c) zero h = risen_inc-start a c ∙ sym (risen_inc-start b c)
 inc_same a b (suc c) (suc t) h = risen_inc-suc a c t ∙ inc_same a b c t (λ u le. h u (omega (arith, le))) ∙ sym (risen_inc-suc b c t)
 
-tap_same : (a b : Time) (c t : ℕ) → 1 ≤ c → ((u : ℕ) → u < t → has_risen a u ≡ has_risen b u) → has_risen (time_inc a c) t ≡ has_risen (time_inc b c) t
+pub tap_same : (a b : Time) (c t : ℕ) → 1 ≤ c → ((u : ℕ) → u < t → has_risen a u ≡ has_risen b u) → has_risen (time_inc a c) t ≡ has_risen (time_inc b c) t
 tap_same a b zero t some h = absurd (omega (arith, some))
 tap_same a b (suc c) zero some h = risen_inc-start a c ∙ sym (risen_inc-start b c)
 tap_same a b (suc c) (suc t) some h = risen_inc-suc a c t ∙ inc_same a b c t (λ u le. h u (omega (arith, le))) ∙ sym (risen_inc-suc b c t)

@@ -32,6 +32,10 @@ pub record IsTiming (g : Netlist) (x : List Time) (gates delays : ℕ → Time) 
   pub each_gate : (k : ℕ) (q : Gate) → slice_get g.gates k ≡ Some q → gates k ≡ gate_time x gates delays q
   pub each_delay : (n : ℕ) (d : Delay) → slice_get g.delays n ≡ Some d → delays n ≡ line_time x gates delays d.from
 
+-- the gates have a timing at these input times
+abbrev pub HasTiming : Netlist → List Time → Type 0
+HasTiming g x = (gates : ℕ → Time) × (delays : ℕ → Time) × IsTiming g x gates delays
+
 -- any two timings agree on every gate and every delay
 abbrev pub TimingsAgree : Netlist → List Time → Type 0
 TimingsAgree g x = (gates delays gates' delays' : ℕ → Time) → IsTiming g x gates delays → IsTiming g x gates' delays' →
